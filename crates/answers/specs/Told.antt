@@ -1,0 +1,84 @@
+-- 01, What a call gives back: the number of each refusal, and every case of every answer as numbers.
+-- Assumes nothing.
+use Prim.Native.Nat.{ℕ}
+use Rattle.answers.specs.declared.Answer.{Answer}
+use Rattle.answers.specs.declared.Refusal.{Refusal}
+use Rattle.answers.specs.declared.Refusal.the-variants.{Section, Unsound, Text, Line, UnknownPhone, Damaged, Phones, Full, Short}
+use Rattle.answers.specs.declared.Source.{Source}
+use Rattle.answers.specs.declared.Source.the-variants.{Runtime, Addenda, Compiled}
+use Rattle.answers.specs.declared.Verdict.{Verdict}
+use Rattle.answers.specs.declared.Verdict.the-variants.{Refused as noVerdict, Yes, No}
+use Rattle.answers.specs.declared.Looked.{Looked}
+use Rattle.answers.specs.declared.Looked.the-variants.{Refused as notLooked, Nothing, Found}
+use Rattle.answers.specs.declared.Predicted.{Predicted}
+use Rattle.answers.specs.declared.Predicted.the-variants.{Refused as notPredicted, Phones as phones}
+use Rattle.answers.specs.declared.Marked.{Marked}
+use Rattle.answers.specs.declared.Marked.the-variants.{Refused as notMarked, Marks}
+use Rattle.answers.specs.declared.Done.{Done}
+use Rattle.answers.specs.declared.Done.the-variants.{Refused as notDone, Accepted as done}
+use Rattle.answers.specs.declared.Lines.{Lines}
+use Rattle.answers.specs.declared.Lines.the-variants.{Refused as notTaken, Taken}
+use Rattle.answers.specs.declared.Said.{Said}
+use Rattle.answers.specs.declared.Said.the-variants.{Refused as notSaid, Accepted as said}
+use Rattle.answers.specs.declared.Joined.{Joined}
+use Rattle.answers.specs.declared.Joined.the-variants.{Refused as notJoined, Bytes}
+
+-- 01's number of a refusal
+abbrev pub refusalNumber : Refusal → ℕ
+refusalNumber Section = 1
+refusalNumber Unsound = 2
+refusalNumber Text = 3
+refusalNumber Line = 4
+refusalNumber UnknownPhone = 5
+refusalNumber Damaged = 6
+refusalNumber Phones = 7
+refusalNumber Full = 8
+refusalNumber Short = 9
+
+-- the sources in 01's order
+abbrev pub sourceNumber : Source → ℕ
+sourceNumber Runtime = 1
+sourceNumber Addenda = 2
+sourceNumber Compiled = 3
+
+-- refused by a number, at a line (0 outside add text)
+abbrev pub refused : ℕ → ℕ → Answer
+refused n line = record { refusal = n; kind = 0; value = line; second = 0; third = 0 }
+
+-- accepted, with a kind and a count
+abbrev pub accepted : ℕ → ℕ → Answer
+accepted kind count = record { refusal = 0; kind = kind; value = count; second = 0; third = 0 }
+
+abbrev pub toldVerdict : Verdict → Answer
+toldVerdict (noVerdict r) = refused (refusalNumber r) 0
+toldVerdict Yes = accepted 1 0
+toldVerdict No = accepted 0 0
+
+abbrev pub toldLooked : Looked → Answer
+toldLooked (notLooked r) = refused (refusalNumber r) 0
+toldLooked Nothing = accepted 0 0
+toldLooked (Found s n) = accepted (sourceNumber s) n
+
+abbrev pub toldPredicted : Predicted → Answer
+toldPredicted (notPredicted r) = refused (refusalNumber r) 0
+toldPredicted (phones n) = accepted 0 n
+
+abbrev pub toldMarked : Marked → Answer
+toldMarked (notMarked r) = refused (refusalNumber r) 0
+toldMarked (Marks n) = accepted 0 n
+
+abbrev pub toldDone : Done → Answer
+toldDone (notDone r) = refused (refusalNumber r) 0
+toldDone done = accepted 0 0
+
+abbrev pub toldLines : Lines → Answer
+toldLines (notTaken r line) = refused (refusalNumber r) line
+toldLines (Taken n) = accepted 0 n
+
+abbrev pub toldSaid : Said → Answer
+toldSaid (notSaid r) = refused (refusalNumber r) 0
+toldSaid said = accepted 0 0
+
+abbrev pub toldJoined : Joined → Answer
+toldJoined (notJoined r) = refused (refusalNumber r) 0
+toldJoined (Bytes n) = accepted 0 n

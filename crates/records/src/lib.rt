@@ -1,0 +1,68 @@
+// Little-endian fields and records of a fixed width in lent bytes. A read past the end gives zeros.
+ghost use mathlib.Core.Path.{_≡_};
+ghost use Prim.Native.Nat.{_+_, _*_, _<_, _≤_};
+ghost use lib.ListN.{length, getD};
+ghost use lib.Seq.{paste};
+ghost use Rattle.records.specs.Fields.{u16At, u32At, put16};
+
+// The byte at k.
+pub fn byte_at(s: &[u8], k: usize) -> u8
+    ensures { λ r. ⌜ r ≡ getD (now (s .entry)) k 0 ⌝ }
+{
+    if k < s.len() { s[k] } else { 0 }
+}
+
+// Two bytes as a number, the low one first.
+fn pair(low: u8, high: u8) -> u16
+    ensures { λ r. ⌜ r ≡ low + 256 * high ⌝ }
+{
+    (low as u16) + 256 * (high as u16)
+}
+
+// The u16 at k.
+pub fn u16_at(s: &[u8], k: usize) -> u16
+    ensures { λ r. ⌜ r ≡ u16At (now (s .entry)) k ⌝ }
+{
+    if s.len() <= k {
+        return 0;
+    }
+    pair(s[k], byte_at(s, k + 1))
+}
+
+// Two halves as a number, the low one first.
+fn joined(low: u16, high: u16) -> u32
+    ensures { λ r. ⌜ r ≡ low + 65536 * high ⌝ }
+{
+    (low as u32) + 65536 * (high as u32)
+}
+
+// The u32 at k.
+pub fn u32_at(s: &[u8], k: usize) -> u32
+    ensures { λ r. ⌜ r ≡ u32At (now (s .entry)) k ⌝ }
+{
+    if s.len() <= k {
+        return 0;
+    }
+    joined(u16_at(s, k), u16_at(s, k + 2))
+}
+
+// v at k.
+pub fn put_u16(s: &mut [u8], k: usize, v: u16)
+    requires { ⌜ k + 1 < length (now s) ⌝ }
+    ensures { λ _. ⌜ now (s .exit) ≡ put16 (now (s .entry)) k v ⌝ }
+{
+    s[k] = (v % 256) as u8;
+    s[k + 1] = (v / 256) as u8;
+}
+
+// All of src into dst from k on.
+pub fn copy_in(dst: &mut [u8], k: usize, src: &[u8])
+    requires { ⌜ k + length (now src) ≤ length (now dst) ⌝ }
+    ensures { λ _. ⌜ now (dst .exit) ≡ paste (now (dst .entry)) k (now (src .entry)) (length (now (src .entry))) ⌝ }
+{
+    let mut j = 0;
+    while j < src.len() {
+        dst[k + j] = src[j];
+        j += 1;
+    }
+}

@@ -1,0 +1,78 @@
+-- Tests over lists: at each element, at some, the place of the first that passes; and one law for each turn of a loop that makes them.
+-- Assumes nothing.
+use Prim.Native.Nat.{ℕ, zero, suc, _+_, _≤_, _<_}
+use native.Mathlib.Numerals.{add-one}
+use native.Mathlib.Nat.{not-suc-le-zero, le-of-suc-le-suc}
+use native.Mathlib.Omega.{arith}
+use mathlib.Core.Path.{_≡_, refl, sym, ap, _∙_}
+use mathlib.Core.Bool.{Bool, true, false, _&&_, _||_}
+use mathlib.Core.List.{List, [], _∷_, _++_}
+use lib.ListN.{length, getD, take, drop, drop-of-length-le}
+use lib.Seq.{drop-cons}
+use Rattle.texts.specs.Choice.{if_then_else_, both-true, cases}
+
+module _ {A : Type 0} (f : A → Bool) where
+  -- the test passes at each element
+  unfoldable pub every : List A → Bool
+  every [] = true
+  every (x ∷ xs) = f x && every xs
+
+  -- the test passes at some element
+  unfoldable pub some : List A → Bool
+  some [] = false
+  some (x ∷ xs) = f x || some xs
+
+  -- the place of the first element at which the test passes, the length where there is none
+  unfoldable pub place : List A → ℕ
+  place [] = 0
+  place (x ∷ xs) = if f x then 0 else suc (place xs)
+
+  pub every-turn : (l : List A) (i : ℕ) (d : A) → i < length l → f (getD l i d) ≡ true → every (drop i l) ≡ every (drop (i + 1) l)
+  unfolding every
+  every-turn l i d h e = rw (drop-cons l i d h, add-one) (rw e refl)
+
+  pub every-stop : (l : List A) (i : ℕ) (d : A) → i < length l → f (getD l i d) ≡ false → every (drop i l) ≡ false
+  unfolding every
+  every-stop l i d h e = rw (drop-cons l i d h) (rw e refl)
+
+  pub every-end : (l : List A) (i : ℕ) → length l ≤ i → every (drop i l) ≡ true
+  unfolding every
+  every-end l i h = rw (drop-of-length-le l h)
+
+  pub some-turn : (l : List A) (i : ℕ) (d : A) → i < length l → f (getD l i d) ≡ false → some (drop i l) ≡ some (drop (i + 1) l)
+  unfolding some
+  some-turn l i d h e = rw (drop-cons l i d h, add-one) (rw e refl)
+
+  pub some-stop : (l : List A) (i : ℕ) (d : A) → i < length l → f (getD l i d) ≡ true → some (drop i l) ≡ true
+  unfolding some
+  some-stop l i d h e = rw (drop-cons l i d h) (rw e refl)
+
+  pub some-end : (l : List A) (i : ℕ) → length l ≤ i → some (drop i l) ≡ false
+  unfolding some
+  some-end l i h = rw (drop-of-length-le l h)
+
+  pub place-turn : (l : List A) (i : ℕ) (d : A) → i < length l → f (getD l i d) ≡ false → place (drop i l) ≡ suc (place (drop (i + 1) l))
+  unfolding place
+  place-turn l i d h e = rw (drop-cons l i d h, add-one) (rw e refl)
+
+  pub place-stop : (l : List A) (i : ℕ) (d : A) → i < length l → f (getD l i d) ≡ true → place (drop i l) ≡ 0
+  unfolding place
+  place-stop l i d h e = rw (drop-cons l i d h) (rw e refl)
+
+  pub place-end : (l : List A) (i : ℕ) → length l ≤ i → place (drop i l) ≡ 0
+  unfolding place
+  place-end l i h = rw (drop-of-length-le l h)
+
+  -- a test that passes at each element passes at the one read
+  pub every-at : (l : List A) (d : A) → every l ≡ true → (k : ℕ) → k < length l → f (getD l k d) ≡ true
+  unfolding every
+  every-at [] d t k h = absurd (not-suc-le-zero h)
+  every-at (x ∷ xs) d t zero h = both-true (f x) (every xs) t .0
+  every-at (x ∷ xs) d t (suc k) h = every-at xs d (both-true (f x) (every xs) t .1) k (le-of-suc-le-suc h)
+
+  pub place-le : (l : List A) → place l ≤ length l
+  unfolding place
+  place-le [] = omega arith
+  place-le (x ∷ xs) =
+      let ih = place-le xs in
+      cases (f x) (λ e. rw e (omega arith)) (λ e. rw e (omega arith))

@@ -1,0 +1,97 @@
+// Byte strings: case folding, blanks, equality, bytewise order, and what may be a word or a tag.
+ghost use mathlib.Core.Path.{_≡_};
+ghost use mathlib.Core.Bool.{_&&_};
+ghost use Prim.Native.Nat.{_<_};
+ghost use Rattle.texts.specs.Text.{folded, blank, same as equal, smaller as before, ascii, isWord};
+
+// A byte as a size.
+pub fn wide(b: u8) -> usize
+    ensures { λ r. ⌜ (r ≡ b) × (r < 256) ⌝ }
+{
+    b as usize
+}
+
+// Both of two tests.
+pub fn both(a: bool, b: bool) -> bool
+    ensures { λ r. ⌜ r ≡ (a && b) ⌝ }
+{
+    if a { b } else { false }
+}
+
+// A to Z become a to z.
+pub fn fold(b: u8) -> u8
+    ensures { λ r. ⌜ r ≡ folded b ⌝ }
+{
+    match b {
+        65..=90 => b + 32,
+        _ => b,
+    }
+}
+
+pub fn is_blank(b: u8) -> bool
+    ensures { λ r. ⌜ r ≡ blank b ⌝ }
+{
+    match b {
+        9..=13 => true,
+        32 => true,
+        _ => false,
+    }
+}
+
+// Whether two strings have the same bytes.
+pub fn same(a: &[u8], b: &[u8]) -> bool
+    ensures { λ r. ⌜ r ≡ equal (now (a .entry)) (now (b .entry)) ⌝ }
+{
+    if a.len() != b.len() {
+        return false;
+    }
+    let mut i = 0;
+    while i < a.len() {
+        if a[i] != b[i] {
+            return false;
+        }
+        i += 1;
+    }
+    true
+}
+
+// Whether a stands before b in bytewise order.
+pub fn smaller(a: &[u8], b: &[u8]) -> bool
+    ensures { λ r. ⌜ r ≡ before (now (a .entry)) (now (b .entry)) ⌝ }
+{
+    let mut i = 0;
+    while i < a.len() {
+        if b.len() <= i {
+            return false;
+        }
+        if a[i] != b[i] {
+            return a[i] < b[i];
+        }
+        i += 1;
+    }
+    i < b.len()
+}
+
+// Whether every byte is below 128.
+pub fn is_ascii(s: &[u8]) -> bool
+    ensures { λ r. ⌜ r ≡ ascii (now (s .entry)) ⌝ }
+{
+    let mut i = 0;
+    while i < s.len() {
+        if 128 <= s[i] {
+            return false;
+        }
+        i += 1;
+    }
+    true
+}
+
+// Whether s may be a word or a tag.
+pub fn is_word(s: &[u8]) -> bool
+    ensures { λ r. ⌜ r ≡ isWord (now (s .entry)) ⌝ }
+{
+    if 47 < s.len() {
+        return false;
+    }
+    is_ascii(s)
+}
