@@ -1,19 +1,20 @@
 -- Byte strings. 01, Lookup: case folding; Adding: blanks; What a call gives back: words and tags.
 -- Assumes nothing.
-use Prim.Native.Nat.{ℕ, suc, _+_, _≤_, _<_}
+use Prim.Native.Nat.{ℕ, suc, _+_, _-_, _≤_, _<_}
+use native.Mathlib.Omega.{arith}
 use Prim.Native.Char.{Char, code}
 use Prim.Native.String.{String, [] as nil, _∷_ as _c∷_}
 use mathlib.Core.Path.{_≡_, refl, sym, ap, _∙_}
-use mathlib.Core.Bool.{Bool, true, false, _&&_, _||_}
-use mathlib.Core.List.{List, [], _∷_}
+use mathlib.Core.Bool.{Bool, true, false, not, _&&_, _||_}
+use mathlib.Core.List.{List, [], _∷_, _++_}
 use lib.Dec.{eqb, leb, ltb}
-use lib.ListN.{length, getD, drop, drop-of-length-le}
-use lib.Seq.{drop-cons}
+use lib.ListN.{length, getD, take, drop, drop-of-length-le}
+use lib.Seq.{drop-cons, take-append-seam}
 use native.Mathlib.Numerals.{add-one}
 use native.Mathlib.Nat.{not-suc-le-zero}
 use borrow.Author.Tests.{eqb-true, eq-eqb, ne-eqb, ltb-true, ltb-false}
 use Rattle.texts.specs.Choice.{if_then_else_, cases, both-true, never, is-false}
-use Rattle.texts.specs.Lists.{every}
+use Rattle.texts.specs.Lists.{every, some}
 
 -- the bytes of a quoted text
 abbrev pub bytes : String → List ℕ
@@ -46,6 +47,11 @@ same [] [] = true
 same [] (y ∷ ys) = false
 same (x ∷ xs) [] = false
 same (x ∷ xs) (y ∷ ys) = eqb x y && same xs ys
+
+-- no two strings of a list have the same bytes
+unfoldable pub distinct : List (List ℕ) → Bool
+distinct [] = true
+distinct (x ∷ xs) = not (some (same x) xs) && distinct xs
 
 -- one string is smaller than another, bytewise
 unfoldable pub smaller : List ℕ → List ℕ → Bool
@@ -96,3 +102,13 @@ module _ (a b : List ℕ) (i : ℕ) where
       cases (ltb i (length b))
       (λ e. rw (e, drop-of-length-le a ha, drop-cons b i 0 (ltb-true i (length b) e)))
       (λ e. rw (e, drop-of-length-le a ha, drop-of-length-le b (ltb-false i (length b) e)))
+
+-- a text behind its length byte, as the code cuts it out of a row
+module _ (row x rest : List ℕ) (n : ℕ) (e : row ≡ length x ∷ x ++ rest) (en : n ≡ getD row 0 0) where
+  pub counted-length : n ≡ length x
+  counted-length = rw e at en
+
+  pub counted-text : take (1 + n - 1) (drop 1 row) ≡ x
+  counted-text =
+      let m : 1 + n - 1 ≡ length x = omega (arith, counted-length) in
+      rw (m, e) (take-append-seam x rest)

@@ -1,0 +1,2 @@
+pub mod Addenda
+pub mod Rules

@@ -1,0 +1,66 @@
+-- `phoneset::row_of` meets its contract: no row passed is named so, so the rows left decide. Assumes nothing.
+use Prim.Native.Nat.{ℕ, _≤_, _-_, _+_}
+use native.Mathlib.Omega.{arith}
+use mathlib.Core.Path.{_≡_, refl, sym, _∙_}
+use lib.ListN.{drop}
+use Rattle.texts.specs.Lists.{place, place-turn, place-stop, place-end}
+use Rattle.texts.specs.Text.{same}
+use Rattle.phoneset.specs.Phones.{Phone, phones, noPhone, rowOf}
+use Rattle.phoneset.specs.Rules.{phone-count}
+use borrow.Author.Needs.{needs}
+use Rattle.phoneset.proofs.row_of.Statement.{statement}
+use Rattle.phoneset.proofs.row_of.Tie as tie
+
+abbrev Inv-loop : tie.InvT-loop
+Inv-loop phone n₀ n = (n ≤ 50) × (rowOf phone ≡ n + place (λ (r : Phone). same (r .name) phone) (drop n phones))
+
+abbrev μ-loop : tie.MeasureT-loop
+μ-loop phone n₀ n = 50 - n
+
+loop-holds : tie.Need-loop-holds Inv-loop μ-loop
+unfolding rowOf
+loop-holds c = (omega arith, omega arith)
+
+is-named-requires : tie.Need-is-named-requires Inv-loop μ-loop
+is-named-requires c κs = search needs
+
+returns : tie.Need-returns Inv-loop μ-loop
+returns c =
+    let l = c .before .before .before .loop in
+    let x = c .before .before .before .before .before .args .phone .now in
+    let e = place-stop (λ (r : Phone). same (r .name) x) phones (l .n) noPhone (rw phone-count (omega arith)) (sym (c .before .is-named .ensures) ∙ c .if1 .taken) in
+    omega arith
+
+add-n : tie.Need-add-n Inv-loop μ-loop
+add-n c = search needs
+
+loop-less : tie.Need-loop-less Inv-loop μ-loop
+loop-less c = search needs
+
+loop-again : tie.Need-loop-again Inv-loop μ-loop
+loop-again c =
+    let l = c .before .before .before .loop in
+    let x = c .before .before .before .before .before .args .phone .now in
+    let e = place-turn (λ (r : Phone). same (r .name) x) phones (l .n) noPhone (rw phone-count (omega arith)) (sym (c .before .is-named .ensures) ∙ c .if1 .left) in
+    (omega arith, omega arith)
+
+returns-2 : tie.Need-returns-2 Inv-loop μ-loop
+returns-2 c =
+    let l = c .before .loop in
+    let x = c .before .before .before .args .phone .now in
+    let e = place-end (λ (r : Phone). same (r .name) x) phones (l .n) (rw phone-count (omega arith)) in
+    omega arith
+
+pub row-of-spec : {M : Type 1} → statement M
+row-of-spec =
+    tie.close
+    (tie.spec
+    Inv-loop
+    μ-loop
+    loop-holds
+    is-named-requires
+    returns
+    add-n
+    loop-less
+    loop-again
+    returns-2)

@@ -1,0 +1,3 @@
+pub mod Phones
+pub mod Rules
+pub mod Stress
