@@ -1,6 +1,9 @@
 -- 01, What a call gives back: the number of each refusal, and every case of every answer as numbers.
 -- Assumes nothing.
 use Prim.Native.Nat.{ℕ}
+use mathlib.Core.Bool.{cond}
+use mathlib.Core.List.{List}
+use lib.Dec.{eqb}
 use Rattle.answers.specs.declared.Answer.{Answer}
 use Rattle.answers.specs.declared.Refusal.{Refusal}
 use Rattle.answers.specs.declared.Refusal.the-variants.{Section, Unsound, Text, Line, UnknownPhone, Damaged, Phones, Full, Short}
@@ -48,6 +51,10 @@ refused n line = record { refusal = n; kind = 0; value = line; second = 0; third
 -- accepted, with a kind and a count
 abbrev pub accepted : ℕ → ℕ → Answer
 accepted kind count = record { refusal = 0; kind = kind; value = count; second = 0; third = 0 }
+
+-- a lent buffer at exit: what the call writes where it was accepted, else as it was
+abbrev pub written : Answer → List ℕ → List ℕ → List ℕ
+written answer before after = cond (eqb (answer .refusal) 0) after before
 
 abbrev pub toldVerdict : Verdict → Answer
 toldVerdict (noVerdict r) = refused (refusalNumber r) 0

@@ -6,7 +6,7 @@ use mathlib.Core.Path.{_≡_, refl, sym, ap, _∙_}
 use mathlib.Core.Bool.{Bool}
 use mathlib.Core.List.{List, [], _∷_, _++_, map}
 use lib.Dec.{leb}
-use lib.ListN.{length, getD, take, drop, replicate, length-append, length-replicate, length-map, List·getD-map}
+use lib.ListN.{length, getD, take, drop, replicate, length-append, length-replicate, length-map, length-take, length-drop, List·getD-map}
 use Rattle.texts.specs.Lists.{every}
 use Rattle.texts.specs.Text.{ascii}
 use Rattle.records.specs.Records.{records, recordAt, record-of, records-from, length-records}
@@ -20,11 +20,8 @@ unfoldable pub phonesOf : List ℕ → List (List ℕ)
 phonesOf b = map text (records 16 b)
 
 -- no phone of a list handed in holds a byte of 128 or more (refusal 3)
-unfoldable pub asciiCell : List ℕ → Bool
-asciiCell c = ascii (text c)
-
 unfoldable pub asciiPhones : List ℕ → Bool
-asciiPhones b = every asciiCell (records 16 b)
+asciiPhones b = every ascii (phonesOf b)
 
 -- no cell of a list handed in has a length over 15 (refusals 5 and 7)
 unfoldable pub shortCell : List ℕ → Bool
@@ -63,3 +60,13 @@ drop-map f (suc n) (x ∷ xs) = drop-map f n xs
 pub phones-from : (b : List ℕ) (i : ℕ) → i ≤ length b / 16 → phonesOf (drop (16 * i) b) ≡ drop i (phonesOf b)
 unfolding phonesOf
 phones-from b i h = ap (λ (l : List (List ℕ)). map text l) (records-from 16 i b (omega arith) h) ∙ sym (drop-map text i (records 16 b))
+
+-- a phone handed in has at most 15 bytes
+pub phone-fits : (b : List ℕ) (i : ℕ) → i < length b / 16 → length (getD (phonesOf b) i []) ≤ 15
+unfolding text recordAt
+phone-fits b i h =
+    let c = recordAt 16 b i in
+    let l = length-take 16 (drop (16 * i) b) in
+    let m = length-take (getD c 0 0) (drop 1 c) in
+    let n = length-drop 1 c in
+    rw (phone-at b i h) (omega arith)

@@ -1,9 +1,10 @@
 // Phone lists in cells of 16 bytes (01, Phones): a length byte and 15 bytes, zeros past the text.
 ghost use mathlib.Core.Path.{_≡_};
-ghost use Prim.Native.Nat.{_+_, _*_, _≤_, min};
-ghost use lib.ListN.{length};
+ghost use mathlib.Core.List.{[]};
+ghost use Prim.Native.Nat.{_+_, _*_, _/_, _<_, _≤_, min};
+ghost use lib.ListN.{length, getD};
 ghost use Rattle.records.specs.Records.{putRecord};
-ghost use Rattle.cells.specs.Cells.{text as textOf, asciiPhones, shortPhones, cell};
+ghost use Rattle.cells.specs.Cells.{text as textOf, phonesOf, asciiPhones, shortPhones, cell};
 
 // How many bytes of a cell are text: its length byte, 15 at most.
 fn text_len(n: u8) -> usize
@@ -21,6 +22,16 @@ pub fn text(cell: &[u8]) -> &[u8]
     &cell[1..end]
 }
 
+// Phone i of a list handed in.
+pub fn phone(list: &[u8], i: usize) -> &[u8]
+    requires { ⌜ i < length (now list) / 16 ⌝ }
+    ensures { λ r. ⌜ now r ≡ getD (phonesOf (now (list .entry))) i [] ⌝ }
+{
+    let from = 16 * i;
+    let to = from + 16;
+    text(&list[from..to])
+}
+
 // Whether no phone of a list handed in holds a byte of 128 or more.
 pub fn are_ascii(list: &[u8]) -> bool
     ensures { λ r. ⌜ r ≡ asciiPhones (now (list .entry)) ⌝ }
@@ -28,9 +39,7 @@ pub fn are_ascii(list: &[u8]) -> bool
     let n = list.len() / 16;
     let mut i = 0;
     while i < n {
-        let from = 16 * i;
-        let to = from + 16;
-        if !texts::is_ascii(text(&list[from..to])) {
+        if !texts::is_ascii(phone(list, i)) {
             return false;
         }
         i += 1;

@@ -1,0 +1,3 @@
+pub mod Syllables
+pub mod OneVowel
+pub mod Call
