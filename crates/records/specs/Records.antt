@@ -1,14 +1,14 @@
 -- Records of a fixed width w in a list of bytes: the whole ones in order, one of them, and one replaced. A remainder is no record.
 -- Assumes nothing.
 use Prim.Native.Nat.{ℕ, zero, suc, _+_, _-_, _*_, _%_, _/_, _<_, _≤_}
-use native.Mathlib.Nat.{le-of-suc-le-suc, not-suc-le-zero, sub-zero, suc-sub-suc, add-mul-div-right, le-div-iff-mul-le, mul-add-div, div-eq-of-lt, mul-le-mul-left}
+use native.Mathlib.Nat.{le-of-suc-le-suc, not-suc-le-zero, sub-zero, suc-sub-suc, add-mul-div-right, le-div-iff-mul-le, mul-add-div, div-eq-of-lt, mul-le-mul-left, zero-add}
 use native.Mathlib.Omega.{arith}
 use native.Mathlib.Decide.{decLe}
 use mathlib.Core.Path.{_≡_, refl, sym, ap, _∙_, subst}
 use mathlib.Core.Logic.{_≢_}
 use mathlib.Core.List.{List, [], _∷_, _++_, append-assoc}
 use lib.ListN.{length, getD, set, take, drop, length-set, length-take, length-drop, length-append, List·getD-append}
-use lib.Seq.{paste, drop-drop, length-take-le, length-paste, length-paste-head, getD-take, getD-drop, getD-append-add, getD-set-other, ext-getD, take-at, drop-at, take-all, take-set-lt, drop-set-add}
+use lib.Seq.{paste, drop-drop, length-take-le, length-paste, length-paste-head, getD-take, getD-drop, getD-append-add, getD-set-other, ext-getD, take-at, drop-at, take-all, take-length, take-set-lt, drop-set-add}
 use Rattle.records.specs.Fields.{u16At, put16}
 
 -- record i
@@ -82,6 +82,10 @@ part-record w i b h = let e : w * i + w - w * i ≡ w = omega arith in rw (recor
 pub part-from : (k : ℕ) (b : List ℕ) → take (length b - k) (drop k b) ≡ drop k b
 part-from k b = take-all (length b - k) (drop k b) (rw length-drop (omega arith))
 
+-- a paste at the front
+pub paste-front : (d s : List ℕ) → paste d 0 s (length s) ≡ s ++ drop (length s) d
+paste-front d s = rw (take-length s, zero-add)
+
 -- what a paste leaves, byte by byte
 paste-before : (d s : List ℕ) (at n k : ℕ) → at ≤ length d → k < at → getD (paste d at s n) k 0 ≡ getD d k 0
 paste-before d s at n k hd h =
@@ -154,6 +158,14 @@ module _ (w : ℕ) (b : List ℕ) (i : ℕ) (r : List ℕ) (fits : w * i + w ≤
       ∙ ap (λ (l : List ℕ). take w l) (drop-at (take (w * i) b) (take w r ++ drop (w * i + w) b) (w * i) (length-take-le (w * i) b (omega arith)))
       ∙ take-at (take w r) (drop (w * i + w) b) w (length-take-le w r (omega arith))
       ∙ take-all w r (omega arith)
+
+  -- the bytes from it on
+  pub drop-putRecord : drop (w * i) (putRecord w b i r) ≡ r ++ drop (w * i + w) b
+  unfolding putRecord
+  drop-putRecord =
+      ap (λ (l : List ℕ). drop (w * i) l) (append-assoc (take (w * i) b) (take w r) (drop (w * i + w) b))
+      ∙ drop-at (take (w * i) b) (take w r ++ drop (w * i + w) b) (w * i) (length-take-le (w * i) b (omega arith))
+      ∙ ap (λ (l : List ℕ). l ++ drop (w * i + w) b) (take-all w r (omega arith))
 
   pub putRecord-other : (j : ℕ) → j ≢ i → recordAt w (putRecord w b i r) j ≡ recordAt w b j
   unfolding putRecord

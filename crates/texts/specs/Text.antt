@@ -12,7 +12,7 @@ use lib.ListN.{length, getD, take, drop, drop-of-length-le}
 use lib.Seq.{drop-cons, take-append-seam}
 use native.Mathlib.Numerals.{add-one}
 use native.Mathlib.Nat.{not-suc-le-zero}
-use borrow.Author.Tests.{eqb-true, eq-eqb, ne-eqb, ltb-true, ltb-false}
+use borrow.Author.Tests.{eqb-true, eq-eqb, ne-eqb, ltb-true, ltb-false, leb-true}
 use Rattle.texts.specs.Choice.{if_then_else_, cases, both-true, never, is-false}
 use Rattle.texts.specs.Lists.{every, some}
 
@@ -28,6 +28,10 @@ folded b = if leb 65 b && leb b 90 then b + 32 else b
 -- blanks are 9 to 13 and 32
 unfoldable pub blank : ℕ → Bool
 blank b = leb 9 b && leb b 13 || eqb b 32
+
+-- a byte is this one
+unfoldable pub is : ℕ → ℕ → Bool
+is b x = eqb x b
 
 -- a byte below 128
 unfoldable pub low : ℕ → Bool
@@ -112,3 +116,7 @@ module _ (row x rest : List ℕ) (n : ℕ) (e : row ≡ length x ∷ x ++ rest) 
   counted-text =
       let m : 1 + n - 1 ≡ length x = omega (arith, counted-length) in
       rw (m, e) (take-append-seam x rest)
+
+pub word-short : (s : List ℕ) → isWord s ≡ true → length s ≤ 47
+unfolding isWord
+word-short s h = leb-true (length s) 47 (both-true (leb (length s) 47) (ascii s) h .0)

@@ -2,7 +2,8 @@
 ghost use mathlib.Core.Path.{_≡_};
 ghost use mathlib.Core.Bool.{_&&_};
 ghost use Prim.Native.Nat.{_<_};
-ghost use Rattle.texts.specs.Text.{folded, blank, same as equal, smaller as before, ascii, isWord};
+ghost use Rattle.texts.specs.Lists.{place};
+ghost use Rattle.texts.specs.Text.{folded, blank, is, same as equal, smaller as before, ascii, isWord};
 
 // A byte as a size.
 pub fn wide(b: u8) -> usize
@@ -70,6 +71,20 @@ pub fn smaller(a: &[u8], b: &[u8]) -> bool
         i += 1;
     }
     i < b.len()
+}
+
+// The place of the first byte b, the length where there is none.
+pub fn find(s: &[u8], b: u8) -> usize
+    ensures { λ r. ⌜ r ≡ place (is b) (now (s .entry)) ⌝ }
+{
+    let mut i = 0;
+    while i < s.len() {
+        if s[i] == b {
+            return i;
+        }
+        i += 1;
+    }
+    i
 }
 
 // Whether every byte is below 128.

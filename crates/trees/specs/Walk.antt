@@ -8,6 +8,7 @@ use mathlib.Core.Bool.{Bool, true, false}
 use mathlib.Core.List.{List}
 use lib.Dec.{eqb, leb, ltb}
 use lib.ListN.{length, getD}
+use borrow.Author.Tests.{ltb-true}
 use Rattle.texts.specs.Choice.{if_then_else_}
 use Rattle.records.specs.Fields.{u16At}
 use Rattle.trees.specs.declared.Node.{Node}
@@ -47,3 +48,22 @@ walk-turn model features phones (suc left) n x h e = let k : suc left - 1 ≡ le
 pub walk-end : (model features : List ℕ) (phones left n : ℕ) → left ≤ 0 → walk model features phones left n ≡ Damaged
 unfolding walk
 walk-end model features phones left n h = let e : left ≡ 0 = omega arith in rw e
+
+-- a leaf that a walk comes to has a phone
+pub walk-leaf : (model features : List ℕ) (phones left n p : ℕ) → walk model features phones left n ≡ Phone p → p < phones
+unfolding walk
+walk-leaf model features phones zero n p e = apart e
+  where
+    apart : Damaged ≡ Phone p → p < phones
+    apart e = let z : _≡_ {A = ℕ} 0 1 = cc in absurd (omega arith)
+walk-leaf model features phones (suc left) n p e = let ih = walk-leaf model features phones left in at (nodeAt model features n) e (λ m. ih m p)
+  where
+    leaf : (q : ℕ) (b : Bool) → ltb q phones ≡ b → (if b then Phone q else Damaged) ≡ Phone p → p < phones
+    leaf q true h e = let z : q ≡ p = cc in omega (arith, ltb-true q phones h)
+    leaf q false h e = let z : _≡_ {A = ℕ} 0 1 = cc in absurd (omega arith)
+
+    at : (x : Node) → onNode phones (λ (m : ℕ). walk model features phones left m) x ≡ Phone p
+        → ((m : ℕ) → walk model features phones left m ≡ Phone p → p < phones) → p < phones
+    at (Leaf q) e ih = leaf q (ltb q phones) refl e
+    at (Next m) e ih = ih m e
+    at Outside e ih = let z : _≡_ {A = ℕ} 0 1 = cc in absurd (omega arith)

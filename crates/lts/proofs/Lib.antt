@@ -1,0 +1,4 @@
+pub mod Fill
+pub mod Put
+pub mod Leftwards
+pub mod Found

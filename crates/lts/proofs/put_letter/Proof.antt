@@ -1,0 +1,115 @@
+-- `lts::put_letter` meets its contract: a letter's leaf is put, any other byte puts nothing. Assumes nothing.
+use Prim.Native.Nat.{ℕ, _*_, _-_, _/_, _≤_, _<_}
+use native.Mathlib.Omega.{arith}
+use mathlib.Core.Path.{_≡_, refl, sym, ap, _∙_, subst}
+use mathlib.Core.Bool.{Bool, true, _&&_}
+use mathlib.Core.List.{List, []}
+use mathlib.Core.Option.{Option}
+use lib.ListN.{length, getD}
+use Rattle.texts.specs.Choice.{both-true}
+use Rattle.records.specs.Fields.{u16At, u32At}
+use Rattle.data.specs.Sections.{isPhoneTable, isLtsIndex, isLtsModel, table-fits}
+use Rattle.trees.specs.Walk.{walk, walk-leaf}
+use Rattle.trees.specs.declared.Walked.the-variants.{Phone, Damaged}
+use Rattle.lts.specs.Letters.{isTrees, window, letter, Puts, letter-left, letter-right, letter-walked, trees-table}
+use Rattle.lts.proofs.Put.{puts-none}
+use borrow.Author.Needs.{needs}
+use Rattle.lts.proofs.put_letter.Statement.{statement}
+use Rattle.lts.proofs.put_letter.Tie as tie
+
+shared-slice-read-b : tie.Need-shared-slice-read-b
+shared-slice-read-b c = search needs
+
+wide-requires : tie.Need-wide-requires
+wide-requires c κs = search needs
+
+mul-u16-at : tie.Need-mul-u16-at
+mul-u16-at c = search needs
+
+u16-at-requires : tie.Need-u16-at-requires
+u16-at-requires c κs = search needs
+
+window-requires : tie.Need-window-requires
+window-requires c κs = search needs
+
+slice-aggregate-walk : tie.Need-slice-aggregate-walk
+slice-aggregate-walk c = search needs
+
+count-requires : tie.Need-count-requires
+count-requires c κs = search needs
+
+walk-requires : tie.Need-walk-requires
+walk-requires c κs = search needs
+
+enum-known-p : tie.Need-enum-known-p
+enum-known-p c = search needs
+
+enum-told : tie.Need-enum-told
+enum-told c = search needs
+
+returns : tie.Need-returns
+returns c =
+    let a = c .before .before .before .before .before .before .before .before .before .before .before .before .before .before .before .before .args in
+    let w = rw (c .before .before .before .before .before .window .ensures, c .before .before .before .count .ensures .0, c .before .before .before .before .before .before .u16-at .ensures, c .before .before .before .before .before .before .before .wide .ensures .0) at (c .before .before .walk .ensures) in
+    let e = letter-walked (a .phones .now) (a .index .now) (a .model .now) (a .text .now) (a .k) (omega arith) (omega arith) Damaged (sym w ∙ c .enum-told .given .1) in
+    rw e refl
+
+wide-requires-2 : tie.Need-wide-requires-2
+wide-requires-2 c κs = search needs
+
+table-phone-requires : tie.Need-table-phone-requires
+table-phone-requires c κs =
+    let a = c .before .before .before .before .before .before .before .before .before .before .before .before .before .before .before .before .before .before .args in
+    let p = c .before .before .p .given .0 .0 in
+    let f = walk-leaf _ _ _ _ _ p (sym (c .before .before .before .before .walk .ensures) ∙ c .before .before .p .given .1) in
+    (trees-table (a .phones .now) (a .index .now) (a .model .now) (c .before .before .before .before .before .before .before .before .before .before .before .before .before .before .before .before .before .before .pre .0), omega (arith, f, c .wide2 .ensures .0, c .before .before .before .before .before .count .ensures .0))
+
+put-leaf-requires : tie.Need-put-leaf-requires
+put-leaf-requires c κs =
+    let a = c .before .before .before .before .before .before .before .before .before .before .before .before .before .before .before .before .before .before .before .before .args in
+    let p = c .before .before .before .before .p .given .0 .0 in
+    let n = c .before .before .wide2 .result in
+    let f = walk-leaf _ _ _ _ _ p (sym (c .before .before .before .before .before .before .walk .ensures) ∙ c .before .before .before .before .p .given .1) in
+    let h : n < u32At (a .phones .now) 0 = omega (arith, f, c .before .before .wide2 .ensures .0, c .before .before .before .before .before .before .before .count .ensures .0) in
+    let t = table-fits (a .phones .now) n (trees-table (a .phones .now) (a .index .now) (a .model .now) (c .before .before .before .before .before .before .before .before .before .before .before .before .before .before .before .before .before .before .before .before .pre .0)) h in
+    (rw (c .before .table-phone .ensures) (t .short), omega (arith, c .before .before .before .before .before .before .before .before .before .before .before .before .before .before .before .before .before .before .before .before .pre), omega (arith, c .before .before .before .before .before .before .before .before .before .before .before .before .before .before .before .before .before .before .before .before .pre))
+
+same-length : tie.Need-same-length
+same-length c = search needs
+
+returns-2 : tie.Need-returns-2
+returns-2 c =
+    let a = c .before .before .before .before .before .before .before .before .before .before .before .before .before .before .before .before .before .before .before .before .before .before .before .args in
+    let p = c .before .before .before .before .before .before .before .p .given .0 .0 in
+    let w = rw (c .before .before .before .before .before .before .before .before .before .before .before .before .window .ensures, c .before .before .before .before .before .before .before .before .before .before .count .ensures .0, c .before .before .before .before .before .before .before .before .before .before .before .before .before .u16-at .ensures, c .before .before .before .before .before .before .before .before .before .before .before .before .before .before .wide .ensures .0) at (c .before .before .before .before .before .before .before .before .before .walk .ensures) in
+    let e = letter-walked (a .phones .now) (a .index .now) (a .model .now) (a .text .now) (a .k) (omega arith) (omega arith) (Phone p) (sym w ∙ c .before .before .before .before .before .before .before .p .given .1) in
+    rw (e, ← c .before .before .before .before .before .wide2 .ensures .0, ← c .before .before .before .before .table-phone .ensures) (c .before .before .put-leaf .ensures)
+
+returns-3 : tie.Need-returns-3
+returns-3 c = let a = c .before .before .before .before .before .before .before .args in rw (letter-left (a .phones .now) (a .index .now) (a .model .now) (a .text .now) (a .k) (omega arith)) (puts-none (a .list .now) (a .at))
+
+returns-4 : tie.Need-returns-4
+returns-4 c = let a = c .before .before .before .before .before .before .before .before .args in rw (letter-right (a .phones .now) (a .index .now) (a .model .now) (a .text .now) (a .k) (omega arith)) (puts-none (a .list .now) (a .at))
+
+pub put-letter-spec : {M : Type 1} → statement M
+put-letter-spec =
+    tie.close
+    (tie.spec
+    shared-slice-read-b
+    wide-requires
+    mul-u16-at
+    u16-at-requires
+    window-requires
+    slice-aggregate-walk
+    count-requires
+    walk-requires
+    enum-known-p
+    enum-told
+    returns
+    wide-requires-2
+    table-phone-requires
+    put-leaf-requires
+    same-length
+    returns-2
+    returns-3
+    returns-4)
