@@ -5,8 +5,8 @@ use native.Mathlib.Omega.{arith}
 use mathlib.Core.Path.{_≡_, refl}
 use mathlib.Core.Logic.{_≢_}
 use mathlib.Core.List.{List}
-use lib.ListN.{length, getD, set, length-set, List·getD-eq-default}
-use lib.Seq.{getD-set-same, getD-set-other}
+use lib.ListN.{length, getD, drop, set, length-set, List·getD-eq-default}
+use lib.Seq.{getD-drop, getD-set-same, getD-set-other}
 
 -- the u16 at k
 unfoldable pub u16At : List ℕ → ℕ → ℕ
@@ -55,3 +55,10 @@ u16-past b k h = let g : length b ≤ k + 1 = omega arith in omega (arith, List�
 pub u32-past : (b : List ℕ) (k : ℕ) → length b ≤ k → u32At b k ≡ 0
 unfolding u32At
 u32-past b k h = omega (arith, u16-past b k h, u16-past b (k + 2) (omega arith))
+
+-- a u16 behind bytes that are dropped
+pub u16-drop : (n : ℕ) (b : List ℕ) (k : ℕ) → u16At (drop n b) k ≡ u16At b (n + k)
+unfolding u16At
+u16-drop n b k =
+    let e : n + (k + 1) ≡ n + k + 1 = omega arith in
+    rw (getD-drop n b k 0, getD-drop n b (k + 1) 0, e)
