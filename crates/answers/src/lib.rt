@@ -122,7 +122,7 @@ fn refused(r: Refusal, line: usize) -> Answer
     }
 }
 
-fn accepted(kind: u32, value: usize) -> Answer
+pub fn accepted(kind: u32, value: usize) -> Answer
     ensures { λ a. ⌜ a ≡ acceptedAs kind value ⌝ }
 {
     Answer {

@@ -1,0 +1,63 @@
+// The public calls as C functions. A slice is a pointer and a length; an answer is `struct Answer` by value.
+ghost use mathlib.Core.Path.{_≡_};
+ghost use lib.ListN.{length};
+ghost use Rattle.texts.specs.Choice.{bit};
+ghost use Rattle.answers.specs.Told.{accepted};
+ghost use Rattle.phoneset.specs.Phones.{isVowel};
+ghost use Rattle.phoneset.specs.Stress.{digits, bare, stress};
+ghost use Rattle.syllabify.specs.Call.{syllabify, syllabified};
+ghost use Rattle.lts.specs.Call.{predict, predicted};
+ghost use Rattle.language.specs.Call.{isSayable};
+use answers::Answer;
+
+// lts.phones, lts.index, lts.model, a word, an output
+#[no_mangle]
+pub extern "C" fn pronouncer_predict(
+    phones: &[u8],
+    index: &[u8],
+    model: &[u8],
+    word: &[u8],
+    out: &mut [u8],
+) -> Answer
+    ensures { λ r. ⌜ r ≡ predict (now (phones .entry)) (now (index .entry)) (now (model .entry)) (now (word .entry)) (now (out .entry)) ⌝ }
+    ensures { λ _. ⌜ now (out .exit) ≡ predicted (now (phones .entry)) (now (index .entry)) (now (model .entry)) (now (word .entry)) (now (out .entry)) ⌝ }
+{
+    answers::told_predicted(lts::predict(phones, index, model, word, out))
+}
+
+// a phone list, a buffer for the marks
+#[no_mangle]
+pub extern "C" fn pronouncer_syllabify(phones: &[u8], marks: &mut [u8]) -> Answer
+    ensures { λ r. ⌜ r ≡ syllabify (now (phones .entry)) (now (marks .entry)) ⌝ }
+    ensures { λ _. ⌜ now (marks .exit) ≡ syllabified (now (phones .entry)) (now (marks .entry)) ⌝ }
+{
+    answers::told_marked(syllabify::syllabify(phones, marks))
+}
+
+// aswd.p, aswd.s, a word
+#[no_mangle]
+pub extern "C" fn pronouncer_is_sayable(prefix: &[u8], suffix: &[u8], word: &[u8]) -> Answer
+    ensures { λ r. ⌜ r ≡ isSayable (now (prefix .entry)) (now (suffix .entry)) (now (word .entry)) ⌝ }
+{
+    answers::told_verdict(language::is_sayable(prefix, suffix, word))
+}
+
+// Whether a phone's text is a vowel: `kind` 1 or 0. Not one of the eleven calls.
+#[no_mangle]
+pub extern "C" fn pronouncer_is_vowel(phone: &[u8]) -> Answer
+    ensures { λ r. ⌜ r ≡ accepted (bit (isVowel (now (phone .entry)))) 0 ⌝ }
+{
+    if phoneset::is_vowel(phone) {
+        return answers::accepted(1, 0);
+    }
+    answers::accepted(0, 0)
+}
+
+// A phone's stress as `kind`, 0 where it has none, and the length of its bare phone as `value`. Not one of the eleven calls.
+#[no_mangle]
+pub extern "C" fn pronouncer_split_stress(phone: &[u8]) -> Answer
+    ensures { λ r. ⌜ r ≡ accepted (stress digits (now (phone .entry))) (length (bare digits (now (phone .entry)))) ⌝ }
+{
+    let split = phoneset::split_stress(phone);
+    answers::accepted(split.stress as u32, split.bare)
+}
