@@ -1,0 +1,55 @@
+//! The original reads sections that live as long as the program; these live as long as their reader.
+
+use original::data::Container;
+
+/// Bytes that pass for `'static`. Whoever keeps one keeps it behind what reads it, so that it goes last.
+pub struct Forever {
+    bytes: *mut [u8],
+}
+
+impl Forever {
+    fn new(bytes: Vec<u8>) -> Forever {
+        Forever {
+            bytes: Box::into_raw(bytes.into_boxed_slice()),
+        }
+    }
+
+    fn bytes(&self) -> &'static [u8] {
+        // SAFETY: the box lives until this is dropped, and what reads it is dropped before.
+        unsafe { &*self.bytes }
+    }
+}
+
+impl Drop for Forever {
+    fn drop(&mut self) {
+        // SAFETY: the pointer came from a box, and nothing else frees it.
+        drop(unsafe { Box::from_raw(self.bytes) });
+    }
+}
+
+/// Something that the original reads out of a container, and the container's bytes.
+pub struct Held<T> {
+    pub reader: T,
+    _bytes: Forever,
+}
+
+/// Hands sections to the original the only way it takes them: as a container.
+pub fn hold<T, E: std::fmt::Debug>(
+    sections: &[(&str, &[u8])],
+    parse: impl FnOnce(&Container<'static>) -> Result<T, E>,
+) -> Held<T> {
+    let mut bytes = b"FLRSDAT\x01".to_vec();
+    for (name, payload) in sections {
+        bytes.push(name.len() as u8);
+        bytes.extend_from_slice(name.as_bytes());
+        bytes.extend_from_slice(&(payload.len() as u32).to_le_bytes());
+        bytes.extend_from_slice(payload);
+    }
+    let bytes = Forever::new(bytes);
+    let container = Container::parse(bytes.bytes()).expect("the original reads our container");
+    let reader = parse(&container).expect("the original takes sections that have 01's form");
+    Held {
+        reader,
+        _bytes: bytes,
+    }
+}

@@ -1,0 +1,92 @@
+//! Compares the proved library with the original Rust, call by call; see README.md.
+
+mod call;
+mod calls;
+mod cells;
+mod forever;
+mod lent;
+mod machines;
+mod notation;
+mod ours;
+mod phones;
+mod random;
+mod record;
+mod run;
+mod shapes;
+mod shrink;
+mod tally;
+mod trees;
+mod words;
+
+use calls::{is_sayable, is_vowel, predict, split_stress, syllabify};
+use run::{Compared, Limit, Runner};
+use std::process::ExitCode;
+
+const USAGE: &str = "usage: oracle [--calls N | --seconds N] [--seed N] [--record FILE --count N]";
+const DIFFERENT: u8 = 1;
+const MISUSED: u8 = 2;
+const NOT_MET: u8 = 3;
+
+struct Arguments {
+    limit: Limit,
+    seed: u64,
+    record: Option<String>,
+    count: usize,
+}
+
+fn main() -> ExitCode {
+    let Some(arguments) = arguments() else {
+        eprintln!("{USAGE}");
+        return ExitCode::from(MISUSED);
+    };
+    call::quiet_panics();
+    let seed = arguments.seed;
+    let mut calls: Vec<Box<dyn Compared>> = vec![
+        Box::new(Runner::new(predict::Predict::default(), seed)),
+        Box::new(Runner::new(syllabify::Syllabify::new(), seed)),
+        Box::new(Runner::new(is_sayable::IsSayable::default(), seed)),
+        Box::new(Runner::new(is_vowel::IsVowel::new(), seed)),
+        Box::new(Runner::new(split_stress::SplitStress::new(), seed)),
+    ];
+    if let Some(file) = &arguments.record {
+        return match record::write(&calls, file, seed, arguments.count) {
+            Ok(()) => ExitCode::SUCCESS,
+            Err(error) => {
+                eprintln!("{file}: {error}");
+                ExitCode::from(MISUSED)
+            }
+        };
+    }
+    println!("seed {seed}");
+    if let Err(difference) = run::run(&mut calls, arguments.limit) {
+        println!("{difference}");
+        return ExitCode::from(DIFFERENT);
+    }
+    match run::report(&calls) {
+        true => ExitCode::SUCCESS,
+        false => ExitCode::from(NOT_MET),
+    }
+}
+
+/// What the command line says; none if it says anything else.
+fn arguments() -> Option<Arguments> {
+    let mut found = Arguments {
+        limit: Limit::Calls(1_000_000),
+        seed: 1,
+        record: None,
+        count: 2_500,
+    };
+    let mut words = std::env::args().skip(1);
+    while let Some(word) = words.next() {
+        let value = words.next()?;
+        match word.as_str() {
+            "--calls" => found.limit = Limit::Calls(value.parse().ok()?),
+            "--seconds" => found.limit = Limit::Seconds(value.parse().ok()?),
+            "--seed" => found.seed = value.parse().ok()?,
+            "--record" => found.record = Some(value),
+            "--count" => found.count = value.parse().ok()?,
+            _ => return None,
+        }
+    }
+    Some(found)
+}

@@ -1,0 +1,101 @@
+//! Byte strings as the recorded list writes them. `.` is empty; a piece is two hex digits, `"text"`,
+//! `<text>` (a length byte and a text), `[text]` (a cell of 16 bytes), or `{N}` and a piece N times.
+
+use crate::cells::{cell, CELL};
+use crate::trees::phone_names;
+
+/// Any bytes.
+pub fn bytes(bytes: &[u8]) -> String {
+    or_dot(pieces(bytes))
+}
+
+/// A word or a phone: in quotes, if it can be.
+pub fn text(text: &[u8]) -> String {
+    match plain(text, b'"') {
+        Some(text) => format!("\"{text}\""),
+        None => bytes(text),
+    }
+}
+
+/// A phone list: its cells, then the remainder.
+pub fn phone_list(list: &[u8]) -> String {
+    or_dot(cells_of(list, list.len() / CELL))
+}
+
+/// An output: so many cells of answer, then the bytes behind them.
+pub fn answered(output: &[u8], count: usize) -> String {
+    or_dot(cells_of(output, count))
+}
+
+/// A phone table: its count, so many strings, then the bytes behind them.
+pub fn phone_table(table: &[u8]) -> String {
+    let (count, mut rest) = table.split_at(table.len().min(4));
+    let mut text: String = count.iter().map(|b| hex(*b)).collect();
+    for name in phone_names(table).unwrap_or_default() {
+        let (string, behind) = rest.split_at(1 + name.len());
+        text += &match plain(&name, b'>') {
+            Some(name) => format!("<{name}>"),
+            None => pieces(string),
+        };
+        rest = behind;
+    }
+    or_dot(text + &pieces(rest))
+}
+
+fn cells_of(list: &[u8], count: usize) -> String {
+    let (front, behind) = list.split_at(CELL * count);
+    let mut text = String::new();
+    for bytes in front.chunks(CELL) {
+        let len = usize::from(bytes[0]);
+        match bytes.get(1..1 + len).and_then(|name| plain(name, b']')) {
+            Some(name) if cell(name.as_bytes()) == bytes => text += &format!("[{name}]"),
+            _ => text += &pieces(bytes),
+        }
+    }
+    text + &pieces(behind)
+}
+
+/// A text that may stand between marks, the last of which it may not hold.
+fn plain(text: &[u8], mark: u8) -> Option<&str> {
+    let fits = |b: &u8| (33..=126).contains(b) && *b != mark;
+    if text.is_empty() || !text.iter().all(fits) {
+        return None;
+    }
+    std::str::from_utf8(text).ok()
+}
+
+fn pieces(bytes: &[u8]) -> String {
+    let mut text = String::new();
+    let mut rest = bytes;
+    while let Some(first) = rest.first() {
+        let same = rest.iter().take_while(|b| *b == first).count();
+        let quoted = rest
+            .iter()
+            .take_while(|b| plain(&[**b], b'"').is_some())
+            .count();
+        let taken = if same > 3 {
+            text += &format!("{{{same}}}{}", hex(*first));
+            same
+        } else if quoted > 2 {
+            text += &format!("\"{}\"", String::from_utf8_lossy(&rest[..quoted]));
+            quoted
+        } else {
+            text += &hex(*first);
+            1
+        };
+        rest = &rest[taken..];
+    }
+    text
+}
+
+fn hex(byte: u8) -> String {
+    format!("{byte:02x}")
+}
+
+fn or_dot(text: String) -> String {
+    if text.is_empty() {
+        ".".into()
+    } else {
+        text
+    }
+}

@@ -1,0 +1,119 @@
+//! The proved library, through its C interface: a slice is a pointer and a length.
+
+#[repr(C)]
+#[derive(Clone, Copy, PartialEq, Eq)]
+pub struct Answer {
+    pub refusal: u32,
+    pub kind: u32,
+    pub value: u64,
+    pub second: u64,
+    pub third: u64,
+}
+
+impl Answer {
+    pub fn accepted(kind: u32, value: usize) -> Answer {
+        Answer {
+            refusal: 0,
+            kind,
+            value: value as u64,
+            second: 0,
+            third: 0,
+        }
+    }
+
+    pub fn refused(refusal: u32) -> Answer {
+        Answer {
+            refusal,
+            kind: 0,
+            value: 0,
+            second: 0,
+            third: 0,
+        }
+    }
+}
+
+#[link(name = "pronouncer", kind = "static")]
+extern "C" {
+    fn pronouncer_predict(
+        phones: *const u8,
+        phones_len: usize,
+        index: *const u8,
+        index_len: usize,
+        model: *const u8,
+        model_len: usize,
+        word: *const u8,
+        word_len: usize,
+        out: *mut u8,
+        out_len: usize,
+    ) -> Answer;
+    fn pronouncer_syllabify(
+        phones: *const u8,
+        phones_len: usize,
+        marks: *mut u8,
+        marks_len: usize,
+    ) -> Answer;
+    fn pronouncer_is_sayable(
+        prefix: *const u8,
+        prefix_len: usize,
+        suffix: *const u8,
+        suffix_len: usize,
+        word: *const u8,
+        word_len: usize,
+    ) -> Answer;
+    fn pronouncer_is_vowel(phone: *const u8, phone_len: usize) -> Answer;
+    fn pronouncer_split_stress(phone: *const u8, phone_len: usize) -> Answer;
+}
+
+pub fn predict(phones: &[u8], index: &[u8], model: &[u8], word: &[u8], out: &mut [u8]) -> Answer {
+    // SAFETY: each pointer and length is a whole slice; only `out` is written.
+    unsafe {
+        pronouncer_predict(
+            phones.as_ptr(),
+            phones.len(),
+            index.as_ptr(),
+            index.len(),
+            model.as_ptr(),
+            model.len(),
+            word.as_ptr(),
+            word.len(),
+            out.as_mut_ptr(),
+            out.len(),
+        )
+    }
+}
+
+pub fn syllabify(phones: &[u8], marks: &mut [u8]) -> Answer {
+    // SAFETY: each pointer and length is a whole slice; only `marks` is written.
+    unsafe {
+        pronouncer_syllabify(
+            phones.as_ptr(),
+            phones.len(),
+            marks.as_mut_ptr(),
+            marks.len(),
+        )
+    }
+}
+
+pub fn is_sayable(prefix: &[u8], suffix: &[u8], word: &[u8]) -> Answer {
+    // SAFETY: each pointer and length is a whole slice; none is written.
+    unsafe {
+        pronouncer_is_sayable(
+            prefix.as_ptr(),
+            prefix.len(),
+            suffix.as_ptr(),
+            suffix.len(),
+            word.as_ptr(),
+            word.len(),
+        )
+    }
+}
+
+pub fn is_vowel(phone: &[u8]) -> Answer {
+    // SAFETY: pointer and length are a whole slice; it is not written.
+    unsafe { pronouncer_is_vowel(phone.as_ptr(), phone.len()) }
+}
+
+pub fn split_stress(phone: &[u8]) -> Answer {
+    // SAFETY: pointer and length are a whole slice; it is not written.
+    unsafe { pronouncer_split_stress(phone.as_ptr(), phone.len()) }
+}

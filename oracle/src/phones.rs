@@ -1,0 +1,172 @@
+//! Phones and phone lists, made from the original's own tables.
+
+use crate::random::Random;
+use crate::words;
+use original::{lexicon, phoneset};
+
+pub struct Phones {
+    pub names: Vec<&'static str>,
+    pub vowels: Vec<&'static str>,
+    pub consonants: Vec<&'static str>,
+    pub onsets: &'static [&'static str],
+}
+
+/// Phones that are in no table, or nearly in one.
+const ODD: [&str; 24] = [
+    "",
+    "zz",
+    "ae1",
+    "ax0",
+    "ae2",
+    "t0",
+    "pau0",
+    "pau1",
+    "ng1",
+    "AE",
+    "Ax",
+    "PAU",
+    "NG",
+    "st",
+    "sk",
+    "a",
+    "e",
+    "au",
+    "pa",
+    "n",
+    "hh0",
+    "axrr",
+    "abcdefghijklmno",
+    "a-b",
+];
+
+impl Phones {
+    pub fn new() -> Phones {
+        let names = phoneset::probe::names();
+        let (vowels, consonants) = names.iter().partition(|name| phoneset::is_vowel(name));
+        Phones {
+            names,
+            vowels,
+            consonants,
+            onsets: lexicon::probe::onsets(),
+        }
+    }
+
+    /// One phone, now and then an odd one.
+    pub fn phone(&self, random: &mut Random) -> Vec<u8> {
+        match random.weighted(&[6, 3, 2, 1]) {
+            0 => random.pick(&self.names).into(),
+            1 => [
+                random.pick(&self.names),
+                random.pick(&["0", "1", "2", "00", "11"]),
+            ]
+            .concat()
+            .into(),
+            2 => random.pick(&ODD).into(),
+            _ => {
+                let len = random.between(0, 15);
+                (0..len).map(|_| random.below(128) as u8).collect()
+            }
+        }
+    }
+
+    /// Every string of up to two bytes, every name with what may stand behind it, and near misses.
+    pub fn short(&self) -> Vec<Vec<u8>> {
+        let ascii: Vec<u8> = (0..128).collect();
+        let mut phones = words::every(&ascii, 2);
+        for name in &self.names {
+            for digit in b'0'..=b'9' {
+                phones.push([name.as_bytes(), &[digit]].concat());
+            }
+            for more in ["", "00", "01", "10", "11", "12", "x", "-", " ", "\0"] {
+                phones.push([name, more].concat().into());
+            }
+            phones.push(name.to_uppercase().into());
+            phones.push(name.as_bytes()[1..].to_vec());
+            phones.push([&b"x"[..], name.as_bytes()].concat());
+        }
+        phones.extend(ODD.map(|phone| phone.into()));
+        for len in 0..=15 {
+            phones.push(vec![b'0'; len]);
+            phones.push(vec![b'1'; len]);
+            phones.push(vec![b'a'; len]);
+        }
+        phones
+    }
+
+    /// Phones for the list: the names, with and without a stress, then others.
+    pub fn to_record(&self, random: &mut Random, cases: usize) -> Vec<Vec<u8>> {
+        let mut phones: Vec<Vec<u8>> = vec![];
+        phones.extend(self.names.iter().map(|name| name.as_bytes().to_vec()));
+        phones.extend(ODD.map(|phone| phone.into()));
+        phones.extend(["ax11", "0", "1", "00", "2", "ax10"].map(|phone| phone.into()));
+        for (i, name) in self.names.iter().enumerate() {
+            phones.push([name, ["0", "1", "1", "2"][i % 4]].concat().into());
+        }
+        while phones.len() < cases {
+            phones.push(self.phone(random));
+        }
+        phones
+    }
+
+    /// A list with many clusters between vowels.
+    pub fn list(&self, random: &mut Random, len: usize) -> Vec<Vec<u8>> {
+        let mut list: Vec<Vec<u8>> = vec![];
+        // some lists have no vowel, some nothing else
+        let kind = random.below(24);
+        while list.len() < len {
+            match random.weighted(&[6, 5, 8, 4, 1, 1, 2, 1]) {
+                _ if kind == 0 => list.push(random.pick(&self.consonants).into()),
+                _ if kind == 1 => list.push(random.pick(&self.vowels).into()),
+                0 => list.push(random.pick(&self.vowels).into()),
+                1 => list.push(random.pick(&self.consonants).into()),
+                2 => {
+                    let onset = random.pick(self.onsets).as_bytes().to_vec();
+                    list.extend(cut(random, &onset));
+                    list.push(random.pick(&self.vowels).into());
+                }
+                3 => {
+                    let onset = random.pick(self.onsets).as_bytes().to_vec();
+                    let near = near_miss(random, onset);
+                    list.extend(cut(random, &near));
+                    list.push(random.pick(&self.vowels).into());
+                }
+                4 => list.push(b"ng".to_vec()),
+                5 => list.push(b"pau".to_vec()),
+                6 => list.push(self.phone(random)),
+                _ => {
+                    for _ in 0..random.between(2, 6) {
+                        list.push(random.pick(&self.consonants).into());
+                    }
+                }
+            }
+        }
+        list.truncate(len);
+        list
+    }
+}
+
+/// A text as one to three phones; a part may be empty.
+fn cut(random: &mut Random, text: &[u8]) -> Vec<Vec<u8>> {
+    let first = random.between(0, text.len());
+    let second = random.between(first, text.len());
+    let (left, middle, right) = (&text[..first], &text[first..second], &text[second..]);
+    match random.weighted(&[4, 6, 1]) {
+        0 => vec![left.to_vec(), [middle, right].concat()],
+        1 => vec![left.to_vec(), middle.to_vec(), right.to_vec()],
+        _ => vec![text.to_vec()],
+    }
+}
+
+/// A text with a letter more, less, another one or two swapped.
+fn near_miss(random: &mut Random, text: Vec<u8>) -> Vec<u8> {
+    let mut text = text;
+    let at = random.below(text.len());
+    let letter = random.pick_byte(b"sptkrlwyhfnmgbdvz0");
+    match random.below(4) {
+        0 => text.insert(at, letter),
+        1 => text[at] = letter,
+        2 => drop(text.remove(at)),
+        _ => text.swap(at, 0),
+    }
+    text
+}

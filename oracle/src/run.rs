@@ -1,0 +1,202 @@
+//! A run: the short inputs of every call, then random ones up to the limit, then the table.
+
+use crate::call::{Call, Outcome};
+use crate::notation;
+use crate::random::Random;
+use crate::shrink::{compare, shrink, Difference};
+use crate::tally::{grouped, Tally};
+use std::time::{Duration, Instant};
+
+/// How many random calls a round has before the limit is looked at.
+const ROUND: usize = 10_000;
+
+#[derive(Clone, Copy)]
+pub enum Limit {
+    Calls(usize),
+    Seconds(u64),
+}
+
+/// One call of the interface and its counts.
+pub struct Runner<C: Call> {
+    call: C,
+    random: Random,
+    seed: u64,
+    tally: Tally,
+}
+
+impl<C: Call> Runner<C> {
+    pub fn new(call: C, seed: u64) -> Runner<C> {
+        Runner {
+            call,
+            random: Random::new(seed, C::NAME),
+            seed,
+            tally: Tally::new(C::NAME, C::ANSWERS, C::MET),
+        }
+    }
+
+    fn one(&mut self, input: C::Input) -> Result<(), String> {
+        match compare(&self.call, &input) {
+            Ok(expected) => {
+                let asked = expected.asked;
+                self.tally.add(asked, expected.row, &expected.met);
+                Ok(())
+            }
+            Err(difference) => Err(self.told(input, *difference)),
+        }
+    }
+
+    /// A difference, in its smallest form and as it was found.
+    fn told(&self, input: C::Input, found: Difference) -> String {
+        let small = shrink(&self.call, input.clone());
+        let Err(smallest) = compare(&self.call, &small) else {
+            unreachable!("shrinking keeps a difference");
+        };
+        format!(
+            "DIFFERENCE in {}, after {} calls that agree.\nIn its smallest form:\n{}\nAs it was found:\n{}",
+            C::NAME,
+            grouped(self.tally.calls()),
+            self.both(&small, &smallest),
+            self.both(&input, &found),
+        )
+    }
+
+    fn both(&self, input: &C::Input, difference: &Difference) -> String {
+        let expected = &difference.expected;
+        let wanted = match &expected.outcome {
+            Ok(outcome) => told(outcome),
+            Err(said) => format!("the original panics: {said}"),
+        };
+        let by = if expected.asked { "the Rust" } else { "01" };
+        format!(
+            "  {}\n  {by:<9} {wanted}\n  ours      {}",
+            clipped(self.call.show(input, &expected.handed)),
+            told(&difference.ours),
+        )
+    }
+}
+
+/// The front of a line that is too long to read.
+fn clipped(line: String) -> String {
+    const MOST: usize = 4_000;
+    match line.get(..MOST) {
+        Some(front) => format!("{front}... ({} characters in all)", line.len()),
+        None => line,
+    }
+}
+
+fn told(outcome: &Outcome) -> String {
+    let a = outcome.answer;
+    let altered = outcome
+        .altered
+        .map_or(String::new(), |what| format!(", altered {what}"));
+    let rest = match (a.second, a.third) {
+        (0, 0) => String::new(),
+        (second, third) => format!(", second {second}, third {third}"),
+    };
+    format!(
+        "refusal {} kind {} value {}{rest}, output {}{altered}",
+        a.refusal,
+        a.kind,
+        a.value,
+        clipped(notation::phone_list(&outcome.output)),
+    )
+}
+
+/// A call of the interface, whatever its inputs are.
+pub trait Compared {
+    fn short(&mut self) -> Result<(), String>;
+    fn random(&mut self, calls: usize) -> Result<(), String>;
+    fn share(&self) -> usize;
+    fn share_recorded(&self) -> usize;
+    fn tally(&self) -> &Tally;
+    fn record(&self, cases: usize) -> Vec<String>;
+}
+
+impl<C: Call> Compared for Runner<C> {
+    fn short(&mut self) -> Result<(), String> {
+        self.call.short().into_iter().try_for_each(|i| self.one(i))
+    }
+
+    fn random(&mut self, calls: usize) -> Result<(), String> {
+        for _ in 0..calls {
+            let input = self.call.random(&mut self.random);
+            self.one(input)?;
+        }
+        Ok(())
+    }
+
+    fn share(&self) -> usize {
+        C::SHARE
+    }
+
+    fn share_recorded(&self) -> usize {
+        C::SHARE_RECORDED
+    }
+
+    fn tally(&self) -> &Tally {
+        &self.tally
+    }
+
+    fn record(&self, cases: usize) -> Vec<String> {
+        let stream = format!("record {}", C::NAME);
+        self.call
+            .record(&mut Random::new(self.seed, &stream), cases)
+    }
+}
+
+/// Compares until the limit; a difference ends it.
+pub fn run(calls: &mut [Box<dyn Compared>], limit: Limit) -> Result<(), String> {
+    let started = Instant::now();
+    for call in calls.iter_mut() {
+        call.short()?;
+    }
+    let short = total(calls);
+    println!("{} short inputs, then random ones", grouped(short));
+    loop {
+        let round = match limit {
+            Limit::Calls(all) => all.saturating_sub(total(calls)).min(ROUND),
+            Limit::Seconds(all) if started.elapsed() < Duration::from_secs(all) => ROUND,
+            Limit::Seconds(_) => 0,
+        };
+        if round == 0 {
+            break;
+        }
+        let mut dealt = 0;
+        let mut shares = 0;
+        for call in calls.iter_mut() {
+            shares += call.share();
+            let part = round * shares / 100 - dealt;
+            call.random(part)?;
+            dealt += part;
+        }
+    }
+    let seconds = started.elapsed().as_secs_f64();
+    let asked: usize = calls.iter().map(|call| call.tally().asked()).sum();
+    println!(
+        "{} calls, {} of them beside the Rust, the others refused as 01 says: no difference",
+        grouped(total(calls)),
+        grouped(asked),
+    );
+    println!(
+        "{seconds:.1} s, {} calls a second\n",
+        grouped((total(calls) as f64 / seconds) as usize)
+    );
+    Ok(())
+}
+
+fn total(calls: &[Box<dyn Compared>]) -> usize {
+    calls.iter().map(|call| call.tally().calls()).sum()
+}
+
+/// Prints the table; false if a row stayed empty.
+pub fn report(calls: &[Box<dyn Compared>]) -> bool {
+    let mut empty = vec![];
+    for call in calls {
+        call.tally().print();
+        empty.extend(call.tally().empty());
+    }
+    for row in &empty {
+        println!("NOT MET: {row}");
+    }
+    empty.is_empty()
+}

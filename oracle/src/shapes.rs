@@ -1,0 +1,409 @@
+//! Letter trees of many shapes, and ways to break them.
+
+use crate::random::Random;
+use crate::trees::{phone_table, Sections, Trees, INDEX, LONGEST_MODEL, NODE};
+use crate::words;
+use original::phoneset;
+
+/// A node: a question (feature, wanted byte, next on a match, next otherwise) or a leaf (255, phone number).
+#[derive(Clone, Copy)]
+pub struct Node {
+    pub first: u8,
+    pub second: u8,
+    pub yes: u16,
+    pub no: u16,
+}
+
+impl Node {
+    pub fn leaf(phone: u8) -> Node {
+        Node {
+            first: 255,
+            second: phone,
+            yes: 0,
+            no: 0,
+        }
+    }
+
+    pub fn of(bytes: &[u8]) -> Node {
+        Node {
+            first: bytes[0],
+            second: bytes[1],
+            yes: u16::from_le_bytes([bytes[2], bytes[3]]),
+            no: u16::from_le_bytes([bytes[4], bytes[5]]),
+        }
+    }
+}
+
+pub fn model(nodes: &[Node]) -> Vec<u8> {
+    let bytes = |n: &Node| {
+        let (yes, no) = (n.yes.to_le_bytes(), n.no.to_le_bytes());
+        [n.first, n.second, yes[0], yes[1], no[0], no[1]]
+    };
+    nodes.iter().flat_map(bytes).collect()
+}
+
+pub fn index(starts: &[u16; 26]) -> Vec<u8> {
+    starts.iter().flat_map(|s| s.to_le_bytes()).collect()
+}
+
+/// Trees before they are written as sections.
+struct Plan {
+    names: Vec<Vec<u8>>,
+    nodes: Vec<Node>,
+    starts: [u16; 26],
+    alphabet: Vec<u8>,
+}
+
+impl Plan {
+    fn sections(&self) -> Sections {
+        Sections {
+            phones: phone_table(&self.names),
+            index: index(&self.starts),
+            model: model(&self.nodes),
+        }
+    }
+}
+
+/// Any trees; one set in six is broken in some way, of which a word need not notice anything.
+pub fn random(random: &mut Random) -> Trees {
+    let shape = random.below(SHAPES);
+    let plan = plan(random, shape, 400);
+    let mut sections = plan.sections();
+    if random.once_in(6) {
+        break_one(random, &mut sections, plan.names.len());
+    }
+    if random.once_in(20) {
+        break_one(random, &mut sections, plan.names.len());
+    }
+    if random.once_in(4) {
+        let more = random.between(1, 9);
+        sections.phones.extend(random.bytes(more));
+        sections.index.extend(random.bytes(more));
+    }
+    Trees::new(sections, plan.alphabet)
+}
+
+/// Whole trees of one of the shapes, of a size that a list can hold.
+pub fn to_record(random: &mut Random, shape: usize) -> Trees {
+    let plan = loop {
+        let plan = plan(random, shape % SHAPES, 400);
+        if plan.names.len() > 4 && plan.nodes.len() > 4 {
+            break plan;
+        }
+    };
+    Trees::new(plan.sections(), plan.alphabet)
+}
+
+/// The largest model: a chain over its 65,536 nodes, with so many leaves at the end of it. Half of
+/// the letters go through the whole of it, the others start near its end.
+pub fn deepest(random: &mut Random, leaves: usize) -> Trees {
+    let names = loop {
+        let names = names(random);
+        if names.len() > 1 {
+            break names;
+        }
+    };
+    let count = LONGEST_MODEL / NODE;
+    let chain = count - leaves;
+    let mut nodes: Vec<Node> = (1..chain)
+        .map(|next| question(random, b"abc", next, next))
+        .collect();
+    let end = random.between(chain, count - 1);
+    nodes.push(question(random, b"abc", end, end));
+    nodes.extend((0..leaves).map(|_| leaf(random, names.len())));
+    let near_end = |i: usize| count - 1 - random.below(1 + 4 * i);
+    let mut starts = [0; 26];
+    for (i, start) in (0..13).map(near_end).enumerate() {
+        starts[2 * i] = start as u16;
+    }
+    let plan = Plan {
+        names,
+        nodes,
+        starts,
+        alphabet: b"abcdefgh".to_vec(),
+    };
+    Trees::new(plan.sections(), plan.alphabet)
+}
+
+/// How many shapes there are.
+const SHAPES: usize = 5;
+
+fn plan(random: &mut Random, shape: usize, most: usize) -> Plan {
+    let names = names(random);
+    let alphabet = words::alphabet(random);
+    let size = match random.weighted(&[1, 6, 3]) {
+        0 => 1,
+        1 => random.between(2, 40),
+        _ => random.between(2, most),
+    };
+    let phones = names.len();
+    let (nodes, starts) = match shape {
+        0 => {
+            let nodes = (0..size).map(|_| leaf(random, phones)).collect();
+            anywhere(random, nodes)
+        }
+        1 => {
+            let nodes = chain(random, size, &alphabet, phones);
+            // mostly from the first node, so that walks are long
+            let (nodes, mut starts) = anywhere(random, nodes);
+            for start in starts.iter_mut().step_by(2) {
+                *start = 0;
+            }
+            (nodes, starts)
+        }
+        2 => {
+            let nodes = downhill(random, size, &alphabet, phones);
+            anywhere(random, nodes)
+        }
+        3 => {
+            let nodes = downhill(random, size, &alphabet, phones);
+            let nodes = renumbered(random, nodes);
+            anywhere(random, nodes)
+        }
+        _ => tree_of_each_letter(random, &alphabet, phones, most),
+    };
+    Plan {
+        names,
+        nodes,
+        starts,
+        alphabet,
+    }
+}
+
+/// The names of a phone table.
+fn names(random: &mut Random) -> Vec<Vec<u8>> {
+    let count = match random.weighted(&[1, 2, 12, 8, 2]) {
+        0 => 0,
+        1 => 1,
+        2 => random.between(2, 12),
+        3 => random.between(13, 80),
+        _ => 256,
+    };
+    let mut names: Vec<Vec<u8>> = (0..count).map(|_| name(random)).collect();
+    if count > 1 && random.once_in(2) {
+        names[0] = b"epsilon".to_vec();
+    }
+    names
+}
+
+const ODD_NAMES: [&str; 20] = [
+    "",
+    "-",
+    "--",
+    "-x",
+    "x-",
+    "x-y-z",
+    "epsilon-x",
+    "x-epsilon",
+    "epsilon1",
+    "epsilo",
+    "Epsilon",
+    "aaaaaaa-bbbbbbb",
+    "abcdefghijklmno",
+    "--------------a",
+    "0",
+    "1",
+    "-1",
+    "ae2",
+    "a b",
+    "ax11",
+];
+
+fn name(random: &mut Random) -> Vec<u8> {
+    let known = phoneset::probe::names();
+    match random.weighted(&[3, 9, 5, 3, 3, 1]) {
+        0 => b"epsilon".to_vec(),
+        1 => [random.pick(&known), random.pick(&["", "", "0", "1"])]
+            .concat()
+            .into_bytes(),
+        2 => [random.pick(&known), "-", random.pick(&known)]
+            .concat()
+            .into_bytes(),
+        3 => [random.pick(&known), "1-", random.pick(&known), "0"]
+            .concat()
+            .into_bytes(),
+        4 => random.pick(&ODD_NAMES).as_bytes().to_vec(),
+        _ => {
+            let len = random.between(0, 15);
+            (0..len).map(|_| random.below(128) as u8).collect()
+        }
+    }
+}
+
+/// A leaf; the bytes behind its number may be anything.
+fn leaf(random: &mut Random, phones: usize) -> Node {
+    Node {
+        first: 255,
+        second: random.below(phones.max(1)) as u8,
+        yes: random.below(65_536) as u16,
+        no: random.below(65_536) as u16,
+    }
+}
+
+/// A question, one in seven of them one that never matches.
+fn question(random: &mut Random, alphabet: &[u8], yes: usize, no: usize) -> Node {
+    let first = match random.once_in(7) {
+        true => random.between(8, 254) as u8,
+        false => random.below(8) as u8,
+    };
+    let second = match random.weighted(&[8, 2, 2, 1]) {
+        0 => random.pick_byte(alphabet).to_ascii_lowercase(),
+        1 => random.pick_byte(b"#0"),
+        2 => random.pick_byte(alphabet),
+        _ => random.byte(),
+    };
+    Node {
+        first,
+        second,
+        yes: yes as u16,
+        no: no as u16,
+    }
+}
+
+/// Questions that lead from each node to the next, and now and then to one further on; leaves at the end.
+fn chain(random: &mut Random, size: usize, alphabet: &[u8], phones: usize) -> Vec<Node> {
+    let mut nodes = vec![];
+    for i in 0..size - 1 {
+        let yes = match random.once_in(3) {
+            true => random.between(i + 1, size - 1),
+            false => i + 1,
+        };
+        nodes.push(question(random, alphabet, yes, i + 1));
+    }
+    nodes.push(leaf(random, phones));
+    nodes
+}
+
+/// Questions that lead to any later nodes, so that none is circular.
+fn downhill(random: &mut Random, size: usize, alphabet: &[u8], phones: usize) -> Vec<Node> {
+    let node = |i: usize| {
+        if i + 1 == size || random.once_in(4) {
+            return leaf(random, phones);
+        }
+        let yes = random.between(i + 1, size - 1);
+        let no = random.between(i + 1, size - 1);
+        question(random, alphabet, yes, no)
+    };
+    (0..size).map(node).collect()
+}
+
+/// The same nodes in another order.
+fn renumbered(random: &mut Random, nodes: Vec<Node>) -> Vec<Node> {
+    let mut place: Vec<usize> = (0..nodes.len()).collect();
+    for i in (1..place.len()).rev() {
+        place.swap(i, random.between(0, i));
+    }
+    let moved = |link: u16| place.get(usize::from(link)).map_or(link, |p| *p as u16);
+    let mut to = nodes.clone();
+    for (node, p) in nodes.iter().zip(&place) {
+        to[*p] = Node {
+            yes: moved(node.yes),
+            no: moved(node.no),
+            ..*node
+        };
+    }
+    to
+}
+
+/// Starts for nodes of which none is circular.
+fn anywhere(random: &mut Random, nodes: Vec<Node>) -> (Vec<Node>, [u16; 26]) {
+    let starts = std::array::from_fn(|_| random.below(nodes.len()) as u16);
+    (nodes, starts)
+}
+
+/// A binary tree for each letter, as in the real sections.
+fn tree_of_each_letter(
+    random: &mut Random,
+    alphabet: &[u8],
+    phones: usize,
+    most: usize,
+) -> (Vec<Node>, [u16; 26]) {
+    let mut nodes = vec![];
+    let mut starts = [0; 26];
+    for start in &mut starts {
+        let depth = random.between(0, 4);
+        let depth = if nodes.len() + 64 > most { 0 } else { depth };
+        *start = nodes.len() as u16;
+        grow(random, &mut nodes, depth, alphabet, phones);
+    }
+    (nodes, starts)
+}
+
+fn grow(
+    random: &mut Random,
+    nodes: &mut Vec<Node>,
+    depth: usize,
+    alphabet: &[u8],
+    phones: usize,
+) -> usize {
+    let at = nodes.len();
+    nodes.push(leaf(random, phones));
+    if depth > 0 {
+        let yes = grow(random, nodes, depth - 1, alphabet, phones);
+        let no = grow(random, nodes, depth - 1, alphabet, phones);
+        nodes[at] = question(random, alphabet, yes, no);
+    }
+    at
+}
+
+/// Breaks the form of a section, damages a tree, makes a circle, or alters any byte.
+fn break_one(random: &mut Random, sections: &mut Sections, phones: usize) {
+    let nodes = sections.model.len() / NODE;
+    let node = NODE * random.below(nodes.max(1));
+    match random.below(12) {
+        0 => {
+            let len = random.below(sections.phones.len() + 1);
+            sections.phones.truncate(len);
+        }
+        1 => {
+            let count = random.between(phones + 1, 300) as u32;
+            put(&mut sections.phones, 0, &count.to_le_bytes());
+        }
+        2 => put(&mut sections.phones, 4, &[random.between(16, 255) as u8]),
+        3 => {
+            let at = random.below(sections.phones.len() + 1);
+            put(&mut sections.phones, at, &[128 + random.below(128) as u8]);
+        }
+        4 => sections.index.truncate(random.below(INDEX)),
+        5 => {
+            let len = random.below(sections.model.len() + 1);
+            sections.model.truncate(len);
+        }
+        6 => sections.model.clear(),
+        7 => {
+            let longer = LONGEST_MODEL + NODE * usize::from(random.once_in(2));
+            if random.once_in(20) {
+                sections.model.resize(longer, 255);
+            }
+        }
+        8 => {
+            let outside = [nodes, nodes + random.below(9), 65_535][random.below(3)] as u16;
+            let letter = 2 * random.below(26);
+            put(&mut sections.index, letter, &outside.to_le_bytes());
+        }
+        9 => {
+            // a link to anywhere: outside, back, or to itself
+            let link = random.below(nodes + 2) as u16;
+            let side = 2 + 2 * random.below(2);
+            put(&mut sections.model, node + side, &link.to_le_bytes());
+        }
+        10 => put(&mut sections.model, node, &[255, phones.min(255) as u8]),
+        _ => {
+            for _ in 0..random.between(1, 6) {
+                let byte = [random.byte()];
+                match random.below(3) {
+                    0 => put(&mut sections.phones, random.below(600), &byte),
+                    1 => put(&mut sections.index, random.below(INDEX), &byte),
+                    _ => put(&mut sections.model, random.below(NODE * nodes + 1), &byte),
+                }
+            }
+        }
+    }
+}
+
+/// Writes bytes into a section, where it is long enough.
+fn put(section: &mut [u8], at: usize, bytes: &[u8]) {
+    if let Some(place) = section.get_mut(at..at + bytes.len()) {
+        place.copy_from_slice(bytes);
+    }
+}

@@ -1,0 +1,67 @@
+//! A smaller input that still differs.
+
+use crate::call::{Call, Expected, Outcome};
+use std::ops::Range;
+
+/// How many inputs are tried.
+const TRIES: usize = 50_000;
+
+/// A difference: what was expected and what the library did.
+pub struct Difference {
+    pub expected: Expected,
+    pub ours: Outcome,
+}
+
+/// Compares one input; tells what was expected if the library does the same.
+pub fn compare<C: Call>(call: &C, input: &C::Input) -> Result<Expected, Box<Difference>> {
+    let expected = call.expected(input);
+    let ours = call.ours(input, &expected.handed);
+    if expected.outcome.as_ref() == Ok(&ours) {
+        return Ok(expected);
+    }
+    Err(Box::new(Difference { expected, ours }))
+}
+
+/// Leaves out of an input whatever can go while a difference stays.
+pub fn shrink<C: Call>(call: &C, input: C::Input) -> C::Input {
+    let mut best = input;
+    let mut tries = 0;
+    'smaller: loop {
+        for candidate in call.smaller(&best) {
+            tries += 1;
+            if tries > TRIES {
+                return best;
+            }
+            if compare(call, &candidate).is_err() {
+                best = candidate;
+                continue 'smaller;
+            }
+        }
+        return best;
+    }
+}
+
+/// Parts of a list to leave out, the longest first; not more than 64 of a length.
+pub fn parts(len: usize) -> Vec<Range<usize>> {
+    let mut parts = vec![];
+    let mut size = len;
+    while size > 0 && len <= 64 * size {
+        let starts = (0..len).step_by(size);
+        parts.extend(starts.map(|start| start..(start + size).min(len)));
+        size /= 2;
+    }
+    parts
+}
+
+/// A list without a part of it.
+pub fn without<T: Clone>(list: &[T], part: &Range<usize>) -> Vec<T> {
+    [&list[..part.start], &list[part.end..]].concat()
+}
+
+/// A list with parts left out, the longest first.
+pub fn shorter<T: Clone>(list: &[T]) -> Vec<Vec<T>> {
+    parts(list.len())
+        .iter()
+        .map(|part| without(list, part))
+        .collect()
+}

@@ -1,0 +1,105 @@
+//! How many calls were compared, by answer and by what they met.
+
+/// The counts of one call's rows.
+pub struct Tally {
+    name: &'static str,
+    answers: Rows,
+    met: Rows,
+    /// How often the original was asked.
+    asked: usize,
+}
+
+struct Rows {
+    names: &'static [&'static str],
+    counts: Vec<usize>,
+}
+
+impl Rows {
+    fn new(names: &'static [&'static str]) -> Rows {
+        Rows {
+            names,
+            counts: vec![0; names.len()],
+        }
+    }
+
+    fn add(&mut self, name: &str) {
+        let row = self.names.iter().position(|n| *n == name);
+        self.counts[row.unwrap_or_else(|| panic!("the table has no row {name}"))] += 1;
+    }
+
+    fn print(&self, indent: &str) {
+        for (name, count) in self.names.iter().zip(&self.counts) {
+            println!("{:<46}{:>12}", format!("{indent}{name}"), grouped(*count));
+        }
+    }
+
+    fn empty(&self) -> impl Iterator<Item = &'static str> + '_ {
+        let rows = self.names.iter().zip(&self.counts);
+        rows.filter(|(_, count)| **count == 0)
+            .map(|(name, _)| *name)
+    }
+}
+
+impl Tally {
+    pub fn new(
+        name: &'static str,
+        answers: &'static [&'static str],
+        met: &'static [&'static str],
+    ) -> Tally {
+        Tally {
+            name,
+            answers: Rows::new(answers),
+            met: Rows::new(met),
+            asked: 0,
+        }
+    }
+
+    pub fn add(&mut self, asked: bool, answer: &str, met: &[&str]) {
+        self.asked += usize::from(asked);
+        self.answers.add(answer);
+        for name in met {
+            self.met.add(name);
+        }
+    }
+
+    pub fn calls(&self) -> usize {
+        self.answers.counts.iter().sum()
+    }
+
+    pub fn asked(&self) -> usize {
+        self.asked
+    }
+
+    pub fn print(&self) {
+        println!(
+            "{:<46}{:>12}   {} beside the Rust",
+            self.name,
+            grouped(self.calls()),
+            grouped(self.asked)
+        );
+        self.answers.print("  ");
+        if !self.met.names.is_empty() {
+            println!("  of these, or in these, met:");
+            self.met.print("    ");
+        }
+    }
+
+    /// The rows that nothing was counted in.
+    pub fn empty(&self) -> Vec<String> {
+        let rows = self.answers.empty().chain(self.met.empty());
+        rows.map(|row| format!("{}: {row}", self.name)).collect()
+    }
+}
+
+/// A number with a comma between its thousands.
+pub fn grouped(number: usize) -> String {
+    let digits = number.to_string();
+    let mut text = String::new();
+    for (i, digit) in digits.chars().enumerate() {
+        if i > 0 && (digits.len() - i) % 3 == 0 {
+            text.push(',');
+        }
+        text.push(digit);
+    }
+    text
+}

@@ -1,0 +1,197 @@
+//! The sections of the letter trees: their form by 01, the walk that tells damage, and the original's reading.
+
+use crate::forever::{hold, Held};
+use crate::lent::Lent;
+use original::lexicon::Lts;
+
+/// Bytes of a node.
+pub const NODE: usize = 6;
+/// The longest model that 01 accepts.
+pub const LONGEST_MODEL: usize = 393_216;
+/// Bytes of lts.index that must be there.
+pub const INDEX: usize = 52;
+
+/// The three sections as bytes.
+#[derive(Clone)]
+pub struct Sections {
+    pub phones: Vec<u8>,
+    pub index: Vec<u8>,
+    pub model: Vec<u8>,
+}
+
+/// Sections, what 01 says of them, and what words to try on them.
+pub struct Trees {
+    pub sections: Sections,
+    pub alphabet: Vec<u8>,
+    /// The phones of the table; none if a section breaks its form.
+    pub names: Option<Vec<Vec<u8>>>,
+    /// Whether some node leads outside or is a leaf without a phone.
+    pub has_damage: bool,
+    original: Option<Held<Lts>>,
+    lent: [Lent; 3],
+}
+
+impl Trees {
+    pub fn new(sections: Sections, alphabet: Vec<u8>) -> Trees {
+        let names = form(&sections);
+        let original = names.as_ref().map(|_| {
+            let parts = [
+                ("lts.phones", &sections.phones[..]),
+                ("lts.index", &sections.index[..]),
+                ("lts.model", &sections.model[..]),
+            ];
+            hold(&parts, Lts::parse)
+        });
+        let count = names.as_ref().map_or(0, Vec::len);
+        Trees {
+            has_damage: has_damage(&sections.model, count),
+            lent: [
+                Lent::new(&sections.phones),
+                Lent::new(&sections.index),
+                Lent::new(&sections.model),
+            ],
+            sections,
+            alphabet,
+            names,
+            original,
+        }
+    }
+
+    /// The original's reading of sections that have their form.
+    pub fn original(&self) -> &Lts {
+        let held = self.original.as_ref();
+        &held.expect("only sections of 01's form are read").reader
+    }
+
+    /// The sections as the library gets them: lts.phones, lts.index, lts.model.
+    pub fn lent(&self) -> [&[u8]; 3] {
+        [
+            self.lent[0].bytes(),
+            self.lent[1].bytes(),
+            self.lent[2].bytes(),
+        ]
+    }
+
+    /// A section that the library altered.
+    pub fn altered(&self) -> Option<&'static str> {
+        let was = &self.sections;
+        if !self.lent[0].kept(&was.phones) {
+            return Some("lts.phones");
+        }
+        if !self.lent[1].kept(&was.index) {
+            return Some("lts.index");
+        }
+        if !self.lent[2].kept(&was.model) {
+            return Some("lts.model");
+        }
+        None
+    }
+
+    /// The number of nodes.
+    pub fn nodes(&self) -> usize {
+        self.sections.model.len() / NODE
+    }
+
+    /// The node where a letter starts.
+    pub fn start(&self, letter: u8) -> usize {
+        let at = 2 * usize::from(letter - b'a');
+        usize::from(number(&self.sections.index[at..]))
+    }
+
+    /// Goes from a node to a leaf, by 01's rule.
+    pub fn walk(&self, features: &[u8; 8], start: usize) -> Walk {
+        let mut walk = Walk::default();
+        let mut at = start;
+        while walk.nodes < self.nodes() && at < self.nodes() {
+            walk.nodes += 1;
+            let node = &self.sections.model[NODE * at..];
+            let next = match node[0] {
+                255 => {
+                    walk.leaf = Some(usize::from(node[1]));
+                    return walk;
+                }
+                feature @ 0..=7 => {
+                    let matched = features[usize::from(feature)] == node[1];
+                    walk.matched |= matched;
+                    walk.other |= !matched;
+                    if matched {
+                        &node[2..]
+                    } else {
+                        &node[4..]
+                    }
+                }
+                8..=254 => {
+                    walk.never = true;
+                    &node[4..]
+                }
+            };
+            at = usize::from(number(next));
+        }
+        walk
+    }
+}
+
+/// How a walk went.
+#[derive(Default)]
+pub struct Walk {
+    /// The leaf's number; none if the walk led outside or in a circle.
+    pub leaf: Option<usize>,
+    pub nodes: usize,
+    pub matched: bool,
+    pub other: bool,
+    pub never: bool,
+}
+
+/// The phones of the table, if all three sections have 01's form.
+fn form(sections: &Sections) -> Option<Vec<Vec<u8>>> {
+    let model = sections.model.len();
+    if sections.index.len() < INDEX || model % NODE != 0 || model > LONGEST_MODEL {
+        return None;
+    }
+    phone_names(&sections.phones)
+}
+
+/// The strings of a phone table that has 01's form.
+pub fn phone_names(table: &[u8]) -> Option<Vec<Vec<u8>>> {
+    let count = u32::from_le_bytes(table.get(..4)?.try_into().ok()?);
+    if count > 256 {
+        return None;
+    }
+    let mut names = vec![];
+    let mut rest = &table[4..];
+    for _ in 0..count {
+        let len = usize::from(*rest.first()?);
+        let name = rest.get(1..1 + len)?;
+        if len > 15 || !name.is_ascii() {
+            return None;
+        }
+        names.push(name.to_vec());
+        rest = &rest[1 + len..];
+    }
+    Some(names)
+}
+
+/// A phone table of these names.
+pub fn phone_table(names: &[Vec<u8>]) -> Vec<u8> {
+    let mut table = (names.len() as u32).to_le_bytes().to_vec();
+    for name in names {
+        table.push(name.len() as u8);
+        table.extend_from_slice(name);
+    }
+    table
+}
+
+fn number(bytes: &[u8]) -> u16 {
+    u16::from_le_bytes([bytes[0], bytes[1]])
+}
+
+fn has_damage(model: &[u8], phones: usize) -> bool {
+    let nodes = model.len() / NODE;
+    let outside = |link: &[u8]| usize::from(number(link)) >= nodes;
+    let damaged = |node: &[u8]| match node[0] {
+        255 => usize::from(node[1]) >= phones,
+        0..=7 => outside(&node[2..]) || outside(&node[4..]),
+        8..=254 => outside(&node[4..]),
+    };
+    model.chunks_exact(NODE).any(damaged)
+}

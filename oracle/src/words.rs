@@ -1,0 +1,118 @@
+//! Words: over an alphabet, of every length.
+
+use crate::random::Random;
+
+/// The longest word that 01 accepts.
+pub const LONGEST: usize = 47;
+
+const LETTERS: &[u8] = b"abcdefghijklmnopqrstuvwxyz";
+const ALPHABETS: [&[u8]; 7] = [
+    b"ab",
+    b"abc#",
+    b"aeinst",
+    LETTERS,
+    b"abcdefghijklmnopqrstuvwxyzABCDEFGHIJKLMNOPQRSTUVWXYZ",
+    b"abcdeinstABCDEINST0123456789'-#",
+    b"zaeiouynmNM#'- 09AZ@[`{",
+];
+
+/// Letters that a set of tables and its words share, so that questions match; now and then all of ASCII.
+pub fn alphabet(random: &mut Random) -> Vec<u8> {
+    match random.below(ALPHABETS.len() + 1) {
+        i if i < ALPHABETS.len() => ALPHABETS[i].to_vec(),
+        _ => (0..128).collect(),
+    }
+}
+
+/// Whether a word is refused by 3.
+pub fn is_refused(word: &[u8]) -> bool {
+    word.len() > LONGEST || !word.is_ascii()
+}
+
+/// A word that 01 accepts; most are short.
+pub fn accepted(random: &mut Random, alphabet: &[u8]) -> Vec<u8> {
+    let len = match random.weighted(&[24, 6, 1, 1]) {
+        0 => random.between(1, 10),
+        1 => random.between(1, LONGEST),
+        2 => LONGEST,
+        _ => 0,
+    };
+    // now and then a letter that the tables do not ask for
+    let wild = random.once_in(4);
+    let mut letter = |_| match wild && random.once_in(5) {
+        true => random.pick_byte(LETTERS),
+        false => random.pick_byte(alphabet),
+    };
+    (0..len).map(&mut letter).collect()
+}
+
+/// A word; one in forty is refused.
+pub fn random(random: &mut Random, alphabet: &[u8]) -> Vec<u8> {
+    let mut word = accepted(random, alphabet);
+    match random.below(80) {
+        0 => word.resize(random.between(LONGEST + 1, 70), random.pick_byte(alphabet)),
+        1 => {
+            let at = random.between(0, word.len());
+            word.insert(at, 128 + random.below(128) as u8);
+        }
+        _ => {}
+    }
+    word
+}
+
+/// Every word up to a length over an alphabet.
+pub fn every(alphabet: &[u8], longest: usize) -> Vec<Vec<u8>> {
+    let mut words = vec![vec![]];
+    let mut last = words.clone();
+    for _ in 0..longest {
+        let longer = |word: &Vec<u8>| {
+            let word = word.clone();
+            alphabet.iter().map(move |b| [&word[..], &[*b]].concat())
+        };
+        last = last.iter().flat_map(longer).collect();
+        words.extend(last.iter().cloned());
+    }
+    words
+}
+
+/// Words at 01's limits.
+pub fn edges() -> Vec<Vec<u8>> {
+    let mut words: Vec<Vec<u8>> = [
+        "",
+        "a",
+        "A",
+        "z",
+        "Z",
+        "a#",
+        "#a",
+        "a#b",
+        "#",
+        "##",
+        "ab",
+        "ba",
+        "tempo#two",
+        "two",
+        "a%a",
+        "a#7",
+        "don't",
+        "_a",
+        "in",
+        ",",
+        "Email",
+        "@",
+        "[",
+        "`",
+        "{",
+    ]
+    .iter()
+    .map(|word| word.as_bytes().to_vec())
+    .collect();
+    for len in [46, 47, 48, 49, 255, 256] {
+        words.push(vec![b'a'; len]);
+        words.push(LETTERS.iter().cycle().take(len).copied().collect());
+    }
+    words.extend([127, 128, 255].map(|b| vec![b'a', b]));
+    words.push(vec![0]);
+    words.push([&[b'a'; 47][..], &[200]].concat());
+    words
+}
