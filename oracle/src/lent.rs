@@ -39,6 +39,12 @@ impl Lent {
     }
 }
 
+/// The first of some lent bytes that are no longer what they were.
+pub fn altered(lent: &[(&'static str, &Lent, &[u8])]) -> Option<&'static str> {
+    let broken = lent.iter().find(|(_, lent, was)| !lent.kept(was));
+    broken.map(|(name, _, _)| *name)
+}
+
 /// How long an output is, beside what its answer needs.
 #[derive(Clone, Copy, PartialEq)]
 pub enum Size {

@@ -1,7 +1,6 @@
 //! The two tables of the sayable machines, and the original's reading of them.
 
 use crate::forever::{hold, Held};
-use crate::lent::Lent;
 use crate::random::Random;
 use crate::words;
 use original::language::Sayable;
@@ -15,7 +14,6 @@ pub struct Machines {
     pub sections: [Vec<u8>; 2],
     pub alphabet: Vec<u8>,
     original: Option<Held<Sayable>>,
-    lent: [Lent; 2],
 }
 
 impl Machines {
@@ -25,7 +23,6 @@ impl Machines {
             hold(&parts, Sayable::parse)
         });
         Machines {
-            lent: [Lent::new(&sections[0]), Lent::new(&sections[1])],
             sections,
             alphabet,
             original,
@@ -41,22 +38,6 @@ impl Machines {
     pub fn original(&self) -> &Sayable {
         let held = self.original.as_ref();
         &held.expect("only sections of 01's form are read").reader
-    }
-
-    /// The sections as the library gets them.
-    pub fn lent(&self) -> [&[u8]; 2] {
-        [self.lent[0].bytes(), self.lent[1].bytes()]
-    }
-
-    /// A section that the library altered.
-    pub fn altered(&self) -> Option<&'static str> {
-        if !self.lent[0].kept(&self.sections[0]) {
-            return Some("aswd.p");
-        }
-        if !self.lent[1].kept(&self.sections[1]) {
-            return Some("aswd.s");
-        }
-        None
     }
 
     /// The cells of a section: 0 is the prefix, 1 the suffix.

@@ -41,22 +41,22 @@ impl<C: Call> Runner<C> {
                 self.tally.add(asked, expected.row, &expected.met);
                 Ok(())
             }
-            Err(difference) => Err(self.told(input, *difference)),
+            Err(difference) => Err(self.told(&input, &difference)),
         }
     }
 
     /// A difference, in its smallest form and as it was found.
-    fn told(&self, input: C::Input, found: Difference) -> String {
-        let small = shrink(&self.call, input.clone());
-        let Err(smallest) = compare(&self.call, &small) else {
-            unreachable!("shrinking keeps a difference");
+    fn told(&self, input: &C::Input, found: &Difference) -> String {
+        let calls = grouped(self.tally.calls());
+        let found = self.both(input, found);
+        let smallest = match shrink(&self.call, input) {
+            Some((small, difference)) => self.both(&small, &difference),
+            None => found.clone(),
         };
         format!(
-            "DIFFERENCE in {}, after {} calls that agree.\nIn its smallest form:\n{}\nAs it was found:\n{}",
+            "DIFFERENCE in {}, after {calls} calls that agree.\n\
+            In its smallest form:\n{smallest}\nAs it was found:\n{found}",
             C::NAME,
-            grouped(self.tally.calls()),
-            self.both(&small, &smallest),
-            self.both(&input, &found),
         )
     }
 

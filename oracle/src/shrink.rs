@@ -22,23 +22,32 @@ pub fn compare<C: Call>(call: &C, input: &C::Input) -> Result<Expected, Box<Diff
     Err(Box::new(Difference { expected, ours }))
 }
 
-/// Leaves out of an input whatever can go while a difference stays.
-pub fn shrink<C: Call>(call: &C, input: C::Input) -> C::Input {
-    let mut best = input;
-    let mut tries = 0;
-    'smaller: loop {
-        for candidate in call.smaller(&best) {
-            tries += 1;
-            if tries > TRIES {
-                return best;
-            }
-            if compare(call, &candidate).is_err() {
-                best = candidate;
-                continue 'smaller;
-            }
+/// A smaller input that differs, and how, if there is one.
+fn step<C: Call>(
+    call: &C,
+    input: &C::Input,
+    tries: &mut usize,
+) -> Option<(C::Input, Box<Difference>)> {
+    for candidate in call.smaller(input) {
+        *tries += 1;
+        if *tries > TRIES {
+            return None;
         }
-        return best;
+        if let Err(difference) = compare(call, &candidate) {
+            return Some((candidate, difference));
+        }
     }
+    None
+}
+
+/// Leaves out of an input whatever can go while a difference stays; none if nothing can go.
+pub fn shrink<C: Call>(call: &C, input: &C::Input) -> Option<(C::Input, Box<Difference>)> {
+    let mut tries = 0;
+    let mut best = step(call, input, &mut tries)?;
+    while let Some(smaller) = step(call, &best.0, &mut tries) {
+        best = smaller;
+    }
+    Some(best)
 }
 
 /// Parts of a list to leave out, the longest first; not more than 64 of a length.

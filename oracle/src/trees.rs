@@ -1,7 +1,6 @@
 //! The sections of the letter trees: their form by 01, the walk that tells damage, and the original's reading.
 
 use crate::forever::{hold, Held};
-use crate::lent::Lent;
 use original::lexicon::Lts;
 
 /// Bytes of a node.
@@ -28,7 +27,6 @@ pub struct Trees {
     /// Whether some node leads outside or is a leaf without a phone.
     pub has_damage: bool,
     original: Option<Held<Lts>>,
-    lent: [Lent; 3],
 }
 
 impl Trees {
@@ -45,11 +43,6 @@ impl Trees {
         let count = names.as_ref().map_or(0, Vec::len);
         Trees {
             has_damage: has_damage(&sections.model, count),
-            lent: [
-                Lent::new(&sections.phones),
-                Lent::new(&sections.index),
-                Lent::new(&sections.model),
-            ],
             sections,
             alphabet,
             names,
@@ -61,30 +54,6 @@ impl Trees {
     pub fn original(&self) -> &Lts {
         let held = self.original.as_ref();
         &held.expect("only sections of 01's form are read").reader
-    }
-
-    /// The sections as the library gets them: lts.phones, lts.index, lts.model.
-    pub fn lent(&self) -> [&[u8]; 3] {
-        [
-            self.lent[0].bytes(),
-            self.lent[1].bytes(),
-            self.lent[2].bytes(),
-        ]
-    }
-
-    /// A section that the library altered.
-    pub fn altered(&self) -> Option<&'static str> {
-        let was = &self.sections;
-        if !self.lent[0].kept(&was.phones) {
-            return Some("lts.phones");
-        }
-        if !self.lent[1].kept(&was.index) {
-            return Some("lts.index");
-        }
-        if !self.lent[2].kept(&was.model) {
-            return Some("lts.model");
-        }
-        None
     }
 
     /// The number of nodes.

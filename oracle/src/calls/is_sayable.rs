@@ -1,7 +1,7 @@
 //! is_sayable: whether two machines accept the letters of a word.
 
 use crate::call::{ask, Call, Expected, Outcome};
-use crate::lent::Lent;
+use crate::lent::{altered, Lent};
 use crate::machines::{self, cell, section, step, walk, Machines, Step, Walk};
 use crate::notation;
 use crate::ours::{self, Answer};
@@ -95,13 +95,16 @@ impl Call for IsSayable {
     }
 
     fn ours(&self, input: &Input, _handed: &[u8]) -> Outcome {
+        let sections = &input.machines.sections;
+        let prefix = Lent::new(&sections[0]);
+        let suffix = Lent::new(&sections[1]);
         let word = Lent::new(&input.word);
-        let [prefix, suffix] = input.machines.lent();
-        let answer = ours::is_sayable(prefix, suffix, word.bytes());
-        let altered = match word.kept(&input.word) {
-            true => input.machines.altered(),
-            false => Some("the word"),
-        };
+        let answer = ours::is_sayable(prefix.bytes(), suffix.bytes(), word.bytes());
+        let altered = altered(&[
+            ("aswd.p", &prefix, &sections[0]),
+            ("aswd.s", &suffix, &sections[1]),
+            ("the word", &word, &input.word),
+        ]);
         Outcome {
             answer,
             output: vec![],

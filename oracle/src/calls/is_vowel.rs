@@ -1,7 +1,7 @@
 //! is_vowel: whether a phone is a vowel. Not one of the eleven calls, but theirs rest on it.
 
 use crate::call::{ask, Call, Expected, Outcome};
-use crate::lent::Lent;
+use crate::lent::{altered, Lent};
 use crate::notation;
 use crate::ours::{self, Answer};
 use crate::phones::Phones;
@@ -58,7 +58,7 @@ impl Call for IsVowel {
         Outcome {
             answer: ours::is_vowel(lent.bytes()),
             output: vec![],
-            altered: (!lent.kept(phone)).then_some("the phone"),
+            altered: altered(&[("the phone", &lent, phone)]),
         }
     }
 

@@ -2,7 +2,7 @@
 
 use crate::call::{ask, Call, Expected, Outcome};
 use crate::cells::{cell, CELL};
-use crate::lent::{Lent, Room, Size};
+use crate::lent::{altered, Lent, Room, Size};
 use crate::notation;
 use crate::ours::{self, Answer};
 use crate::random::Random;
@@ -155,20 +155,30 @@ impl Call for Predict {
     }
 
     fn ours(&self, input: &Input, handed: &[u8]) -> Outcome {
+        let sections = &input.trees.sections;
+        let phones = Lent::new(&sections.phones);
+        let index = Lent::new(&sections.index);
+        let model = Lent::new(&sections.model);
         let word = Lent::new(&input.word);
         let mut out = Lent::new(handed);
-        let [phones, index, model] = input.trees.lent();
-        let answer = ours::predict(phones, index, model, word.bytes(), out.bytes_mut());
-        let altered = if !word.kept(&input.word) {
-            Some("the word")
-        } else if !out.guards_kept() {
-            Some("bytes beside the output")
-        } else {
-            input.trees.altered()
-        };
+        let answer = ours::predict(
+            phones.bytes(),
+            index.bytes(),
+            model.bytes(),
+            word.bytes(),
+            out.bytes_mut(),
+        );
+        let output = out.bytes().to_vec();
+        let altered = altered(&[
+            ("lts.phones", &phones, &sections.phones),
+            ("lts.index", &index, &sections.index),
+            ("lts.model", &model, &sections.model),
+            ("the word", &word, &input.word),
+            ("bytes beside the output", &out, &output),
+        ]);
         Outcome {
             answer,
-            output: out.bytes().to_vec(),
+            output,
             altered,
         }
     }

@@ -1,7 +1,7 @@
 //! split_stress: a phone's stress and its bare phone. Not one of the eleven calls, but theirs rest on it.
 
 use crate::call::{ask, Call, Expected, Outcome};
-use crate::lent::Lent;
+use crate::lent::{altered, Lent};
 use crate::notation;
 use crate::ours::{self, Answer};
 use crate::phones::Phones;
@@ -69,7 +69,7 @@ impl Call for SplitStress {
         Outcome {
             answer: ours::split_stress(lent.bytes()),
             output: vec![],
-            altered: (!lent.kept(phone)).then_some("the phone"),
+            altered: altered(&[("the phone", &lent, phone)]),
         }
     }
 

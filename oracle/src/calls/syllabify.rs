@@ -2,7 +2,7 @@
 
 use crate::call::{ask, Call, Expected, Outcome};
 use crate::cells::{cell, text, CELL};
-use crate::lent::{Lent, Room, Size};
+use crate::lent::{altered, Lent, Room, Size};
 use crate::notation;
 use crate::ours::{self, Answer};
 use crate::phones::Phones;
@@ -141,16 +141,14 @@ impl Call for Syllabify {
         let phones = Lent::new(&list);
         let mut out = Lent::new(handed);
         let answer = ours::syllabify(phones.bytes(), out.bytes_mut());
-        let altered = if !phones.kept(&list) {
-            Some("the phones")
-        } else if !out.guards_kept() {
-            Some("bytes beside the output")
-        } else {
-            None
-        };
+        let output = out.bytes().to_vec();
+        let altered = altered(&[
+            ("the phones", &phones, &list),
+            ("bytes beside the output", &out, &output),
+        ]);
         Outcome {
             answer,
-            output: out.bytes().to_vec(),
+            output,
             altered,
         }
     }
