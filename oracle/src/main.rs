@@ -22,7 +22,8 @@ use calls::{is_sayable, is_vowel, predict, split_stress, syllabify};
 use run::{Compared, Limit, Runner};
 use std::process::ExitCode;
 
-const USAGE: &str = "usage: oracle [--calls N | --seconds N] [--seed N] [--record FILE --count N]";
+const USAGE: &str =
+    "usage: oracle [--calls N | --seconds N] [--seed N] [--record FOLDER --count N]";
 const DIFFERENT: u8 = 1;
 const MISUSED: u8 = 2;
 const NOT_MET: u8 = 3;
@@ -48,11 +49,11 @@ fn main() -> ExitCode {
         Box::new(Runner::new(is_vowel::IsVowel::new(), seed)),
         Box::new(Runner::new(split_stress::SplitStress::new(), seed)),
     ];
-    if let Some(file) = &arguments.record {
-        return match record::write(&calls, file, seed, arguments.count) {
+    if let Some(folder) = &arguments.record {
+        return match record::write(&calls, folder, seed, arguments.count) {
             Ok(()) => ExitCode::SUCCESS,
             Err(error) => {
-                eprintln!("{file}: {error}");
+                eprintln!("{folder}: {error}");
                 ExitCode::from(MISUSED)
             }
         };

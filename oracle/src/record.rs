@@ -2,32 +2,54 @@
 
 use crate::call::Expected;
 use crate::run::Compared;
+use std::collections::BTreeMap;
 use std::io;
 
 const HEAD: &str = "\
 # What the original Rust answers, for programs that have no Rust at hand. Written by the driver in
-# oracle/, which builds the original sources unchanged; no answer here comes from our library.";
-const TAIL: &str = "\
-# One case a line, tokens parted by single blanks; OUT' and MARKS' are the buffers at exit.
-#   predict PHONES INDEX MODEL WORD OUT -> REFUSAL KIND VALUE OUT'
-#   syllabify PHONES MARKS -> REFUSAL KIND VALUE MARKS'
-#   is_sayable P S WORD -> REFUSAL KIND VALUE
-#   is_vowel PHONE -> 0 KIND 0
-#   split_stress PHONE -> 0 KIND VALUE
-# `$N BYTES` gives register N its bytes. A byte string is `.` (empty) or pieces: two hex digits (a
-# byte); \"text\"; <text> (a length byte and the text); [text] (a cell of 16 bytes: length byte, text,
-# zeros); {N} and a piece, N times; $N a register. `=` is a buffer as it was handed in.";
+# oracle/, which builds the original sources unchanged; no answer here comes from our library.
+# docs/CASES.md tells the format.";
 
-/// Writes about so many cases, dealt among the calls.
-pub fn write(calls: &[Box<dyn Compared>], file: &str, seed: u64, count: usize) -> io::Result<()> {
+/// A file of cases stays below this, so that its reader needs no larger buffer.
+const FILE_BYTES: usize = 60_000;
+
+/// Writes about so many cases, dealt among the calls, into files of a folder.
+pub fn write(calls: &[Box<dyn Compared>], folder: &str, seed: u64, count: usize) -> io::Result<()> {
     let shares: usize = calls.iter().map(|call| call.share_recorded()).sum();
-    let command = format!("# Made by: oracle/run --record FILE --count {count} --seed {seed}");
-    let mut lines = vec![HEAD.to_string(), command, TAIL.to_string()];
+    let command = format!("# Made by: oracle/run --record FOLDER --count {count} --seed {seed}");
+    let head = format!("{HEAD}\n{command}\n\n");
+    std::fs::create_dir_all(folder)?;
     for call in calls {
-        lines.push(String::new());
-        lines.extend(call.record((count * call.share_recorded()).div_ceil(shares)));
+        let lines = call.record((count * call.share_recorded()).div_ceil(shares));
+        for (number, text) in parts(&head, &lines).iter().enumerate() {
+            let name = format!("{folder}/{}-{}.txt", call.name(), number + 1);
+            std::fs::write(name, text)?;
+        }
     }
-    std::fs::write(file, lines.join("\n") + "\n")
+    Ok(())
+}
+
+/// Cases dealt among files, each with the head and the registers that its first case needs.
+fn parts(head: &str, lines: &[String]) -> Vec<String> {
+    let mut files = Vec::new();
+    let mut registers: BTreeMap<String, &String> = BTreeMap::new();
+    let mut text = head.to_string();
+    for line in lines {
+        if text.len() + line.len() + 1 > FILE_BYTES {
+            files.push(std::mem::replace(&mut text, head.to_string()));
+            for register in registers.values() {
+                text += register.as_str();
+                text.push('\n');
+            }
+        }
+        if line.starts_with('$') {
+            registers.insert(line[..2].to_string(), line);
+        }
+        text += line;
+        text.push('\n');
+    }
+    files.push(text);
+    files
 }
 
 /// A case: the call, and what the original answers.

@@ -108,6 +108,7 @@ pub trait Compared {
     fn random(&mut self, calls: usize) -> Result<(), String>;
     fn share(&self) -> usize;
     fn share_recorded(&self) -> usize;
+    fn name(&self) -> &'static str;
     fn tally(&self) -> &Tally;
     fn record(&self, cases: usize) -> Vec<String>;
 }
@@ -131,6 +132,10 @@ impl<C: Call> Compared for Runner<C> {
 
     fn share_recorded(&self) -> usize {
         C::SHARE_RECORDED
+    }
+
+    fn name(&self) -> &'static str {
+        C::NAME
     }
 
     fn tally(&self) -> &Tally {
