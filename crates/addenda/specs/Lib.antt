@@ -1,2 +1,4 @@
 pub mod Addenda
 pub mod Rules
+pub mod Find
+pub mod Rows

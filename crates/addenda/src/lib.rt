@@ -1,8 +1,12 @@
 // The 42 addenda (01, Lookup): words that the compiled entries would get wrong.
 ghost use mathlib.Core.Path.{_≡_};
-ghost use Prim.Native.Nat.{_<_};
-ghost use lib.ListN.{getD};
+ghost use mathlib.Core.List.{[], _++_};
+ghost use Prim.Native.Nat.{_*_, _≤_, _<_};
+ghost use lib.ListN.{length, getD, drop};
+ghost use Rattle.texts.specs.Lists.{place};
+ghost use Rattle.cells.specs.Cells.{text, cellsOf};
 ghost use Rattle.addenda.specs.Addenda.{addenda, noAddendum, encoded};
+ghost use Rattle.addenda.specs.Find.{isMeant};
 
 // A row: a tag, a length byte and six bytes for the word, a count, and as many cells of a length
 // byte and three bytes for the phones, of which there are at most eight.
@@ -57,4 +61,60 @@ pub fn addenda_row(n: usize) -> [u8; 41]
     ensures { λ r. ⌜ r ≡ encoded (getD addenda n noAddendum) ⌝ }
 {
     ADDENDA[n]
+}
+
+// The text at k of a row, behind its length byte.
+fn text_at(row: &[u8], k: usize) -> &[u8]
+    ensures { λ r. ⌜ now r ≡ text (drop k (now (row .entry))) ⌝ }
+{
+    let cell = records::tail(row, k);
+    let n = texts::wide(records::byte_at(cell, 0));
+    records::head(records::tail(cell, 1), n)
+}
+
+// Whether row n has this word and a tag that agrees.
+fn is_meant(n: usize, word: &[u8], tag: u8) -> bool
+    requires { ⌜ n < 42 ⌝ }
+    ensures { λ r. ⌜ r ≡ isMeant (now (word .entry)) tag (getD addenda n noAddendum) ⌝ }
+{
+    let row = addenda_row(n);
+    let same = texts::same(text_at(&row, 1), word);
+    texts::both(same, texts::agree(true, row[0], tag))
+}
+
+// The first row with this word, unfolded, and a tag that agrees; 42 where there is none.
+pub fn find(word: &[u8], tag: u8) -> usize
+    ensures { λ r. ⌜ r ≡ place (isMeant (now (word .entry)) tag) addenda ⌝ }
+{
+    let mut n = 0;
+    while n < 42 {
+        if is_meant(n, word, tag) {
+            return n;
+        }
+        n += 1;
+    }
+    n
+}
+
+// How many phones row n has.
+pub fn count(n: usize) -> usize
+    requires { ⌜ n < 42 ⌝ }
+    ensures { λ r. ⌜ (r ≡ length (getD addenda n noAddendum .phones)) × (r ≤ 8) ⌝ }
+{
+    let row = addenda_row(n);
+    texts::wide(row[8])
+}
+
+// The phones of row n as cells at the front of out.
+pub fn put_phones(out: &mut [u8], n: usize)
+    requires { ⌜ (n < 42) × (16 * length (getD addenda n noAddendum .phones) ≤ length (now out)) ⌝ }
+    ensures { λ _. ⌜ now (out .exit) ≡ cellsOf (getD addenda n noAddendum .phones) ++ drop (16 * length (getD addenda n noAddendum .phones)) (now (out .entry)) ⌝ }
+{
+    let row = addenda_row(n);
+    let count = texts::wide(row[8]);
+    let mut i = 0;
+    while i < count {
+        cells::put_cell(out, i, text_at(&row, 9 + 4 * i));
+        i += 1;
+    }
 }

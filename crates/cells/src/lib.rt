@@ -3,8 +3,9 @@ ghost use mathlib.Core.Path.{_≡_};
 ghost use mathlib.Core.List.{[]};
 ghost use Prim.Native.Nat.{_+_, _*_, _/_, _<_, _≤_, min};
 ghost use lib.ListN.{length, getD};
+ghost use lib.Seq.{paste};
 ghost use Rattle.records.specs.Records.{putRecord};
-ghost use Rattle.cells.specs.Cells.{text as textOf, phonesOf, asciiPhones, shortPhones, cell};
+ghost use Rattle.cells.specs.Cells.{text as textOf, phonesOf, asciiPhones, shortPhones, cell, cellsOf};
 
 // How many bytes of a cell are text: its length byte, 15 at most.
 fn text_len(n: u8) -> usize
@@ -71,4 +72,17 @@ pub fn put_cell(list: &mut [u8], i: usize, phone: &[u8])
     c[0] = phone.len() as u8;
     records::copy_in(&mut c, 1, phone);
     records::copy_in(list, 16 * i, &c);
+}
+
+// The phones of a list handed in as cells from cell k on, with zeros past each text.
+pub fn put_phones(dst: &mut [u8], k: usize, list: &[u8])
+    requires { ⌜ 16 * k + 16 * (length (now list) / 16) ≤ length (now dst) ⌝ }
+    ensures { λ _. ⌜ now (dst .exit) ≡ paste (now (dst .entry)) (16 * k) (cellsOf (phonesOf (now (list .entry)))) (16 * (length (now (list .entry)) / 16)) ⌝ }
+{
+    let n = list.len() / 16;
+    let mut i = 0;
+    while i < n {
+        put_cell(dst, k + i, phone(list, i));
+        i += 1;
+    }
 }

@@ -11,7 +11,8 @@ use lib.ListN.{length, getD, take, drop, length-take, length-drop}
 use lib.Seq.{drop-drop, getD-drop}
 use borrow.Author.Tests.{leb-true, ltb-true}
 use Rattle.texts.specs.Choice.{both-true}
-use Rattle.texts.specs.Text.{ascii}
+use Rattle.texts.specs.Lists.{some}
+use Rattle.texts.specs.Text.{ascii, same}
 use Rattle.records.specs.Fields.{u32At}
 
 -- a string at the front: a length byte up to 15 and that many bytes below 128
@@ -35,6 +36,10 @@ isPhoneTable s = leb 4 (length s) && leb (u32At s 0) 256 && goodStrings (u32At s
 -- the phones of a table
 unfoldable pub tablePhones : List ℕ → List (List ℕ)
 tablePhones s = strings (u32At s 0) (drop 4 s)
+
+-- a table lists this phone
+unfoldable pub isListed : List ℕ → List ℕ → Bool
+isListed s p = some (same p) (tablePhones s)
 
 -- lex.index: a u32 count, and room for so many u32 offsets
 unfoldable pub isLexIndex : List ℕ → Bool
@@ -121,6 +126,26 @@ module _ (s : List ℕ) (at m : ℕ) (more : 0 < m) where
       ap (λ (k : ℕ). getD (strings k (drop at s)) left []) n
       ∙ ap (λ (k : ℕ). getD (strings (suc (m - 1)) (drop at s)) k []) l
       ∙ rw (getD-drop at s 0 0, z, drop-drop (1 + getD s at 0) at s)
+
+  -- a string is this one, or one of those behind it is
+  pub listed-here : (p : List ℕ) → same p (take (getD s at 0) (drop (at + 1) s)) ≡ true → some (same p) (strings m (drop at s)) ≡ true
+  unfolding strings some
+  listed-here p e =
+      let n : m ≡ suc (m - 1) = omega arith in
+      let z : at + 0 ≡ at = omega arith in
+      ap (λ (k : ℕ). some (same p) (strings k (drop at s))) n ∙ rw (getD-drop at s 0 0, z, drop-drop 1 at s, e)
+
+  pub listed-behind : (p : List ℕ) → same p (take (getD s at 0) (drop (at + 1) s)) ≡ false
+      → some (same p) (strings m (drop at s)) ≡ some (same p) (strings (m - 1) (drop (at + (1 + getD s at 0)) s))
+  unfolding strings some
+  listed-behind p e =
+      let n : m ≡ suc (m - 1) = omega arith in
+      let z : at + 0 ≡ at = omega arith in
+      ap (λ (k : ℕ). some (same p) (strings k (drop at s))) n ∙ rw (getD-drop at s 0 0, z, drop-drop 1 at s, e, drop-drop (1 + getD s at 0) at s)
+
+pub listed-end : (p s : List ℕ) (m : ℕ) → m ≤ 0 → some (same p) (strings m s) ≡ false
+unfolding strings some
+listed-end p s m h = let e : m ≡ 0 = omega arith in rw e
 
 -- the first string of a good list is good
 pub first-good : (s : List ℕ) (m : ℕ) → 0 < m → goodStrings m s ≡ true → goodString s ≡ true

@@ -5,7 +5,7 @@ ghost use mathlib.Core.List.{[]};
 ghost use Prim.Native.Nat.{_<_, _^_};
 ghost use lib.ListN.{getD};
 ghost use Rattle.records.specs.Fields.{u32At};
-ghost use Rattle.data.specs.Sections.{goodString, goodStrings, isPhoneTable, tablePhones, isLexIndex, isLtsIndex, isLtsModel, isAswd};
+ghost use Rattle.data.specs.Sections.{goodString, goodStrings, isPhoneTable, tablePhones, isListed, isLexIndex, isLtsIndex, isLtsModel, isAswd};
 
 // The count at the front of a section.
 pub fn count(s: &[u8]) -> usize
@@ -76,6 +76,25 @@ pub fn table_phone(s: &[u8], n: usize) -> &[u8]
     let from = at + 1;
     let to = from + texts::wide(s[at]);
     &s[from..to]
+}
+
+// Whether a table lists this phone.
+pub fn is_listed(s: &[u8], phone: &[u8]) -> bool
+    requires { ⌜ isPhoneTable (now s) ≡ true ⌝ }
+    ensures { λ r. ⌜ r ≡ isListed (now (s .entry)) (now (phone .entry)) ⌝ }
+{
+    let mut left = count(s);
+    let mut at = 4;
+    while 0 < left {
+        let from = at + 1;
+        let to = from + texts::wide(s[at]);
+        if texts::same(phone, &s[from..to]) {
+            return true;
+        }
+        at = to;
+        left -= 1;
+    }
+    false
 }
 
 pub fn is_lex_index(s: &[u8]) -> bool

@@ -2,13 +2,14 @@
 -- Assumes nothing.
 use Prim.Native.Nat.{ℕ, zero, suc, _+_, _-_, _*_, _%_, _/_, _<_, _≤_}
 use native.Mathlib.Nat.{le-of-suc-le-suc, not-suc-le-zero, sub-zero, suc-sub-suc, add-mul-div-right, le-div-iff-mul-le, mul-add-div, div-eq-of-lt, mul-le-mul-left, zero-add}
+use native.Mathlib.Numerals.{add-one}
 use native.Mathlib.Omega.{arith}
 use native.Mathlib.Decide.{decLe}
 use mathlib.Core.Path.{_≡_, refl, sym, ap, _∙_, subst}
 use mathlib.Core.Logic.{_≢_}
 use mathlib.Core.List.{List, [], _∷_, _++_, append-assoc}
 use lib.ListN.{length, getD, set, take, drop, length-set, length-take, length-drop, length-append, List·getD-append}
-use lib.Seq.{paste, drop-drop, length-take-le, length-paste, length-paste-head, getD-take, getD-drop, getD-append-add, getD-set-other, ext-getD, take-at, drop-at, take-all, take-length, take-set-lt, drop-set-add}
+use lib.Seq.{paste, paste-suc, take-paste, drop-paste, drop-drop, length-take-le, length-paste, length-paste-head, getD-take, getD-drop, getD-append-add, getD-set-other, ext-getD, take-at, drop-at, take-all, take-length, take-set-lt, take-suc-set, drop-set-add}
 use Rattle.records.specs.Fields.{u16At, put16}
 
 -- record i
@@ -82,9 +83,41 @@ part-record w i b h = let e : w * i + w - w * i ≡ w = omega arith in rw (recor
 pub part-from : (k : ℕ) (b : List ℕ) → take (length b - k) (drop k b) ≡ drop k b
 part-from k b = take-all (length b - k) (drop k b) (rw length-drop (omega arith))
 
--- a paste at the front
+-- a paste at the front, and what it put there
+pub take-front : (d s : List ℕ) (n : ℕ) → length s ≡ n → take n (paste d 0 s n) ≡ s
+take-front d s n l = rw (take-all n s (omega arith)) (take-at s (drop (0 + n) d) n l)
+
 pub paste-front : (d s : List ℕ) → paste d 0 s (length s) ≡ s ++ drop (length s) d
 paste-front d s = rw (take-length s, zero-add)
+
+-- one more byte of a paste, as a loop writes it
+pub paste-turn : (d s : List ℕ) (k j v : ℕ) → k + j < length d → j < length s → getD s j 0 ≡ v → set (paste d k s j) (k + j) v ≡ paste d k s (j + 1)
+paste-turn d s k j v hd hs e = rw (← e, add-one) (paste-suc d k s j 0 hd hs)
+
+-- n bytes of t pasted behind m bytes of s are the first m + n bytes of s, if s goes on with them
+pub paste-more : (d s t : List ℕ) (a m n : ℕ) → a + m + n ≤ length d → m ≤ length s → take (m + n) s ≡ take m s ++ take n t
+    → paste (paste d a s m) (a + m) t n ≡ paste d a s (m + n)
+paste-more d s t a m n hd hs e =
+    let ha : a ≤ length d = omega arith in
+    let k : a + m + n ≡ a + (m + n) = omega arith in
+    rw (take-paste d a s m ha hs, ← drop-drop n (a + m) (paste d a s m), drop-paste d a s m ha hs, drop-drop, append-assoc (take a d) (take m s) (take n t), ← e, k)
+
+-- a record written from its front on: one byte more, and one part more
+pub front-byte : (b p : List ℕ) (k v : ℕ) → k < length b → take k b ≡ p → take (k + 1) (set b k v) ≡ p ++ (v ∷ [])
+front-byte b p k v h e = rw (add-one, take-suc-set b k v h, e)
+
+pub front-part : (b p s : List ℕ) (k n : ℕ) → k + n ≤ length b → length s ≡ n → take k b ≡ p → take (k + n) (paste b k s n) ≡ p ++ s
+front-part b p s k n h l e =
+    let hk : k ≤ length b = omega arith in
+    let hn : n ≤ length s = omega arith in
+    let hs : length s ≤ n = omega arith in
+    rw (take-paste b k s n hk hn, e, take-all n s hs)
+
+pub front-u16 : (b : List ℕ) (v : ℕ) → 1 < length b → take 2 (put16 b 0 v) ≡ v % 256 ∷ v / 256 ∷ []
+unfolding put16
+front-u16 b v h =
+    let f = front-byte b [] 0 (v % 256) (omega arith) refl in
+    front-byte (set b 0 (v % 256)) (v % 256 ∷ []) 1 (v / 256) (simp length-set h) f
 
 -- what a paste leaves, byte by byte
 paste-before : (d s : List ℕ) (at n k : ℕ) → at ≤ length d → k < at → getD (paste d at s n) k 0 ≡ getD d k 0

@@ -1,7 +1,7 @@
 // Little-endian fields and records of a fixed width in lent bytes. A read past the end gives zeros.
 ghost use mathlib.Core.Path.{_≡_};
 ghost use Prim.Native.Nat.{_+_, _*_, _<_, _≤_};
-ghost use lib.ListN.{length, getD};
+ghost use lib.ListN.{length, getD, take, drop, replicate};
 ghost use lib.Seq.{paste};
 ghost use Rattle.records.specs.Fields.{u16At, u32At, put16};
 
@@ -10,6 +10,20 @@ pub fn byte_at(s: &[u8], k: usize) -> u8
     ensures { λ r. ⌜ r ≡ getD (now (s .entry)) k 0 ⌝ }
 {
     if k < s.len() { s[k] } else { 0 }
+}
+
+// The bytes from k on.
+pub fn tail(s: &[u8], k: usize) -> &[u8]
+    ensures { λ r. ⌜ now r ≡ drop k (now (s .entry)) ⌝ }
+{
+    if k < s.len() { &s[k..] } else { &s[0..0] }
+}
+
+// The first n bytes.
+pub fn head(s: &[u8], n: usize) -> &[u8]
+    ensures { λ r. ⌜ now r ≡ take n (now (s .entry)) ⌝ }
+{
+    if n < s.len() { &s[0..n] } else { s }
 }
 
 // Two bytes as a number, the low one first.
@@ -63,6 +77,18 @@ pub fn copy_in(dst: &mut [u8], k: usize, src: &[u8])
     let mut j = 0;
     while j < src.len() {
         dst[k + j] = src[j];
+        j += 1;
+    }
+}
+
+// n zeros into dst from k on.
+pub fn clear(dst: &mut [u8], k: usize, n: usize)
+    requires { ⌜ k + n ≤ length (now dst) ⌝ }
+    ensures { λ _. ⌜ now (dst .exit) ≡ paste (now (dst .entry)) k (replicate n 0) n ⌝ }
+{
+    let mut j = 0;
+    while j < n {
+        dst[k + j] = 0;
         j += 1;
     }
 }

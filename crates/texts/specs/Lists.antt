@@ -7,6 +7,7 @@ use native.Mathlib.Omega.{arith}
 use mathlib.Core.Path.{_≡_, refl, sym, ap, _∙_}
 use mathlib.Core.Bool.{Bool, true, false, _&&_, _||_}
 use mathlib.Core.List.{List, [], _∷_, map}
+use mathlib.Core.Option.{Option, none as nothing, some as just}
 use lib.ListN.{length, getD, take, drop, drop-of-length-le}
 use lib.Seq.{drop-cons}
 use Rattle.texts.specs.Choice.{if_then_else_, both-true, cases}
@@ -77,8 +78,56 @@ module _ {A : Type 0} (f : A → Bool) where
       let ih = place-le xs in
       cases (f x) (λ e. rw e (omega arith)) (λ e. rw e (omega arith))
 
+-- the first element at which the test passes
+unfoldable pub first : {A : Type 0} → (A → Bool) → List A → Option A
+first f [] = nothing
+first f (x ∷ xs) = if f x then just x else first f xs
+
+-- it is the one at its place, if there is one
+pub first-none : {A : Type 0} (f : A → Bool) (l : List A) → length l ≤ place f l → first f l ≡ nothing
+unfolding first place
+first-none f [] h = refl
+first-none f (x ∷ xs) h =
+    cases (f x)
+    (λ e. let z : suc (length xs) ≤ 0 = rw e at h in absurd (not-suc-le-zero z))
+    (λ e. let k : suc (length xs) ≤ suc (place f xs) = rw e at h in rw e (first-none f xs (le-of-suc-le-suc k)))
+
+pub first-just : {A : Type 0} (f : A → Bool) (l : List A) (d : A) → place f l < length l → first f l ≡ just (getD l (place f l) d)
+unfolding first place
+first-just f [] d h = absurd (not-suc-le-zero h)
+first-just f (x ∷ xs) d h =
+    cases (f x)
+    (λ e. rw e)
+    (λ e. let k : suc (suc (place f xs)) ≤ suc (length xs) = rw e at h in rw e (first-just f xs d (le-of-suc-le-suc k)))
+
+-- tests that agree at each element of a list agree on the list
+pub every-same : {A : Type 0} (f g : A → Bool) (l : List A) (d : A) → ((k : ℕ) → k < length l → f (getD l k d) ≡ g (getD l k d)) → every f l ≡ every g l
+unfolding every
+every-same f g [] d h = refl
+every-same f g (x ∷ xs) d h = let ih = every-same f g xs d (λ k l. h (suc k) (omega arith)) in rw (h 0 (omega arith), ih)
+
 -- an element of a mapped list, whatever stands past its end
 pub getD-map : {A B : Type 0} (f : A → B) (l : List A) (n : ℕ) (d : A) (e : B) → n < length l → getD (map f l) n e ≡ f (getD l n d)
 getD-map f [] n d e h = absurd (not-suc-le-zero h)
 getD-map f (x ∷ xs) zero d e h = refl
 getD-map f (x ∷ xs) (suc n) d e h = getD-map f xs n d e (le-of-suc-le-suc h)
+
+-- n numbers from k on
+unfoldable pub from : ℕ → ℕ → List ℕ
+from k zero = []
+from k (suc n) = k ∷ from (suc k) n
+
+-- the numbers below n
+abbrev pub upTo : ℕ → List ℕ
+upTo n = from 0 n
+
+pub length-from : (k n : ℕ) → length (from k n) ≡ n
+unfolding from
+length-from k zero = refl
+length-from k (suc n) = ap suc (length-from (suc k) n)
+
+pub getD-from : (k n i d : ℕ) → i < n → getD (from k n) i d ≡ k + i
+unfolding from
+getD-from k zero i d h = absurd (not-suc-le-zero h)
+getD-from k (suc n) zero d h = omega arith
+getD-from k (suc n) (suc i) d h = let e = getD-from (suc k) n i d (le-of-suc-le-suc h) in omega arith

@@ -45,6 +45,10 @@ ascii s = every low s
 unfoldable pub isWord : List ℕ → Bool
 isWord s = leb (length s) 47 && ascii s
 
+-- one tag is another; or, where "0" is any tag, one of them is "0"
+unfoldable pub agree : Bool → ℕ → ℕ → Bool
+agree any a b = eqb a b || any && (eqb a 48 || eqb b 48)
+
 -- two strings have the same bytes
 unfoldable pub same : List ℕ → List ℕ → Bool
 same [] [] = true

@@ -3,7 +3,7 @@ ghost use mathlib.Core.Path.{_≡_};
 ghost use mathlib.Core.Bool.{_&&_};
 ghost use Prim.Native.Nat.{_<_};
 ghost use Rattle.texts.specs.Lists.{place};
-ghost use Rattle.texts.specs.Text.{folded, blank, is, same as equal, smaller as before, ascii, isWord};
+ghost use Rattle.texts.specs.Text.{folded, blank, is, same as equal, smaller as before, ascii, isWord, agree as agreeOf};
 
 // A byte as a size.
 pub fn wide(b: u8) -> usize
@@ -109,4 +109,20 @@ pub fn is_word(s: &[u8]) -> bool
         return false;
     }
     is_ascii(s)
+}
+
+// Whether one tag is another; or, where "0" is any tag, one of them is "0".
+pub fn agree(any: bool, a: u8, b: u8) -> bool
+    ensures { λ r. ⌜ r ≡ agreeOf any a b ⌝ }
+{
+    if a == b {
+        return true;
+    }
+    if !any {
+        return false;
+    }
+    if a == 48 {
+        return true;
+    }
+    b == 48
 }

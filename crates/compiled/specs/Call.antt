@@ -1,0 +1,30 @@
+-- 01, check lexicon: refusal 1; yes exactly when no entry is damaged, every number has a phone and words don't fall.
+-- Assumes nothing.
+use Prim.Native.Nat.{ℕ, _+_, _-_}
+use mathlib.Core.Bool.{Bool, not, _&&_}
+use mathlib.Core.List.{List}
+use Rattle.texts.specs.Choice.{if_then_else_, bit}
+use Rattle.texts.specs.Lists.{every, upTo}
+use Rattle.texts.specs.Text.{smaller}
+use Rattle.data.specs.Sections.{isPhoneTable, isLexIndex}
+use Rattle.answers.specs.declared.Answer.{Answer}
+use Rattle.answers.specs.Told.{refused, accepted}
+use Rattle.compiled.specs.Entries.{wordOf, isWhole, isSpoken, count, entryAt}
+
+-- the sections that hold compiled entries have their form (refusal 1); any bytes may be lex.data
+unfoldable pub isLexicon : List ℕ → List ℕ → Bool
+isLexicon phones index = isPhoneTable phones && isLexIndex index
+
+-- entry i is not damaged, and every number of it has a phone
+unfoldable pub isGood : List ℕ → List ℕ → List ℕ → ℕ → Bool
+isGood phones index dat i = isWhole (entryAt index dat i) && isSpoken phones (entryAt index dat i)
+
+-- the word behind entry i is not smaller than its own
+unfoldable pub rises : List ℕ → List ℕ → ℕ → Bool
+rises index dat i = not (smaller (wordOf (entryAt index dat (i + 1))) (wordOf (entryAt index dat i)))
+
+unfoldable pub isChecked : List ℕ → List ℕ → List ℕ → Bool
+isChecked phones index dat = every (isGood phones index dat) (upTo (count index)) && every (rises index dat) (upTo (count index - 1))
+
+unfoldable pub checkLexicon : List ℕ → List ℕ → List ℕ → Answer
+checkLexicon phones index dat = if not (isLexicon phones index) then refused 1 0 else accepted (bit (isChecked phones index dat)) 0

@@ -1,0 +1,41 @@
+-- 01, Lookup: a compiled entry at its lex.data offset is tag, word length, word, phone count, phone numbers.
+-- Assumes nothing.
+use Prim.Native.Nat.{ℕ, _+_, _*_}
+use mathlib.Core.Bool.{Bool, _&&_}
+use mathlib.Core.List.{List, [], map}
+use lib.Dec.{leb, ltb}
+use lib.ListN.{length, getD, take, drop}
+use Rattle.texts.specs.Lists.{every}
+use Rattle.texts.specs.Text.{ascii}
+use Rattle.records.specs.Fields.{u32At}
+use Rattle.data.specs.Sections.{tablePhones}
+
+-- the parts of an entry at the front of bytes
+unfoldable pub tagOf : List ℕ → ℕ
+tagOf s = getD s 0 0
+
+unfoldable pub wordOf : List ℕ → List ℕ
+wordOf s = take (getD s 1 0) (drop 2 s)
+
+unfoldable pub numbersOf : List ℕ → List ℕ
+numbersOf s = take (getD s (2 + getD s 1 0) 0) (drop (3 + getD s 1 0) s)
+
+-- no part lies outside, and its word has no byte of 128 or more; else the entry is damaged
+unfoldable pub isWhole : List ℕ → Bool
+isWhole s = leb (3 + getD s 1 0 + getD s (2 + getD s 1 0) 0) (length s) && ascii (wordOf s)
+
+-- how many entries there are
+abbrev pub count : List ℕ → ℕ
+count index = u32At index 0
+
+-- entry i: the bytes from its offset on
+unfoldable pub entryAt : List ℕ → List ℕ → ℕ → List ℕ
+entryAt index dat i = drop (u32At index (4 + 4 * i)) dat
+
+-- every number of an entry has a phone
+unfoldable pub isSpoken : List ℕ → List ℕ → Bool
+isSpoken table s = every (λ (n : ℕ). ltb n (u32At table 0)) (numbersOf s)
+
+-- the phones of an entry
+unfoldable pub phonesOf : List ℕ → List ℕ → List (List ℕ)
+phonesOf table s = map (λ (n : ℕ). getD (tablePhones table) n []) (numbersOf s)

@@ -1,0 +1,60 @@
+-- 01, Lookup: Adding. add entry as a call: its refusals 1, 2, 3, 5, 7 and 8, and the store at exit.
+-- Assumes nothing.
+use Prim.Native.Nat.{ℕ, zero, suc, _/_, _<_}
+use native.Mathlib.Nat.{not-suc-le-zero, le-of-suc-le-suc}
+use mathlib.Core.Path.{_≡_, refl}
+use mathlib.Core.Bool.{Bool, not, _&&_, _||_}
+use mathlib.Core.List.{List, [], _∷_, map}
+use lib.Dec.{ltb}
+use lib.ListN.{length, getD}
+use Rattle.texts.specs.Choice.{if_then_else_}
+use Rattle.texts.specs.Lists.{every, some}
+use Rattle.texts.specs.Text.{bytes, folded, isWord, same}
+use Rattle.records.specs.Records.{records}
+use Rattle.cells.specs.Cells.{text, asciiPhones, shortCell}
+use Rattle.phoneset.specs.Phones.{isKnown}
+use Rattle.data.specs.Sections.{isPhoneTable, isListed}
+use Rattle.slots.specs.Slot.{Entry}
+use Rattle.store.specs.Store.{isSound}
+use Rattle.store.specs.Adding.{entryFor, added, isFull}
+use Rattle.answers.specs.declared.Answer.{Answer}
+use Rattle.answers.specs.Told.{refused, accepted, written}
+
+-- the tag of an entry to be added: "nil" or an empty one becomes "0", any other its first byte
+unfoldable pub addedTag : List ℕ → ℕ
+addedTag tag = if same tag (bytes "nil") then 48 else getD tag 0 48
+
+-- a phone that may be added: one of lex.phones or of the 50 (refusal 5)
+unfoldable pub mayAdd : List ℕ → List ℕ → Bool
+mayAdd table p = isListed table p || isKnown p
+
+-- a cell handed in; one with a length over 15 is in no table
+unfoldable pub mayAddCell : List ℕ → List ℕ → Bool
+mayAddCell table c = shortCell c && mayAdd table (text c)
+
+unfoldable pub mayAddAll : List ℕ → List ℕ → Bool
+mayAddAll table phones = every (mayAddCell table) (records 16 phones)
+
+-- the entry to be added, its word folded
+unfoldable pub newEntry : List ℕ → List ℕ → List ℕ → Entry
+newEntry word tag phones = entryFor (addedTag tag) (map folded word) phones
+
+unfoldable pub addEntry : List ℕ → List ℕ → List ℕ → List ℕ → List ℕ → Answer
+addEntry table store word tag phones =
+    if not (isPhoneTable table) then refused 1 0
+    else if not (isSound store) then refused 2 0
+    else if not (isWord word && isWord tag && asciiPhones phones) then refused 3 0
+    else if not (mayAddAll table phones) then refused 5 0
+    else if ltb 24 (length phones / 16) then refused 7 0
+    else if isFull store (newEntry word tag phones) then refused 8 0
+    else accepted 0 0
+
+-- the store at exit
+unfoldable pub storeAfter : List ℕ → List ℕ → List ℕ → List ℕ → List ℕ → List ℕ
+storeAfter table store word tag phones = written (addEntry table store word tag phones) store (added store (newEntry word tag phones))
+
+-- inside a list it does not matter what stands past its end
+pub getD-in : (l : List ℕ) (k c d : ℕ) → k < length l → getD l k c ≡ getD l k d
+getD-in [] k c d h = absurd (not-suc-le-zero h)
+getD-in (x ∷ xs) zero c d h = refl
+getD-in (x ∷ xs) (suc k) c d h = getD-in xs k c d (le-of-suc-le-suc h)

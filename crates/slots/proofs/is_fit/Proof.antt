@@ -1,0 +1,101 @@
+-- `slots::is_fit` meets its contract: each return is decided by the first test of the definition that fails. Assumes nothing.
+use Rattle.slots.specs.Slot.{entryOf, fits, isFolded, count-fits, phones-fit}
+use Rattle.cells.specs.Cells.{asciiPhones}
+use Rattle.texts.specs.Text.{low, isWord}
+use borrow.Author.Tests.{lt-ltb, le-ltb, le-leb, lt-leb, not-true, not-false}
+use lib.ListN.{length, getD}
+use lib.Dec.{leb}
+use mathlib.Core.Bool.{true, false}
+use mathlib.Core.Path.{_≡_, refl, sym, ap, _∙_}
+use native.Mathlib.Omega.{arith}
+use Prim.Native.Nat.{ℕ, _≤_, _<_}
+use borrow.Author.Needs.{needs}
+use Rattle.slots.proofs.is_fit.Statement.{statement}
+use Rattle.slots.proofs.is_fit.Tie as tie
+
+isLow : (c : tie.Else1) → low (entryOf (c .before .before .before .args .slot .now) .tag) ≡ true
+unfolding low
+isLow c = let e = c .before .tag .ensures in lt-ltb (entryOf (c .before .before .before .args .slot .now) .tag) 128 (omega arith)
+
+worded : (c : tie.Else2) → isWord (entryOf (c .before .before .before .before .before .before .args .slot .now) .word) ≡ true
+worded c = sym (c .before .is-word .ensures ∙ ap isWord (c .before .before .word .ensures)) ∙ not-false (c .before .is-word .result) (c .if2 .left)
+
+small : (c : tie.Else3) → isFolded (entryOf (c .before .before .before .before .before .before .before .before .before .args .slot .now) .word) ≡ true
+small c = sym (c .before .is-folded .ensures ∙ ap isFolded (c .before .before .word2 .ensures)) ∙ not-false (c .before .is-folded .result) (c .if3 .left)
+
+tag-requires : tie.Need-tag-requires
+tag-requires c κs = search needs
+
+returns : tie.Need-returns
+unfolding fits low
+returns c =
+    let t = entryOf (c .before .before .before .args .slot .now) .tag in
+    let e = c .before .tag .ensures in
+    rw (le-ltb t 128 (omega arith))
+
+word-requires : tie.Need-word-requires
+word-requires c κs = search needs
+
+is-word-requires : tie.Need-is-word-requires
+is-word-requires c κs = search needs
+
+returns-2 : tie.Need-returns-2
+unfolding fits
+returns-2 c =
+    let w : isWord (entryOf (c .before .before .before .before .before .before .args .slot .now) .word) ≡ false = sym (c .before .is-word .ensures ∙ ap isWord (c .before .before .word .ensures)) ∙ not-true (c .before .is-word .result) (c .if2 .taken) in
+    rw (isLow (c .before .before .before), w)
+
+word-requires-2 : tie.Need-word-requires-2
+word-requires-2 c κs = search needs
+
+is-folded-requires : tie.Need-is-folded-requires
+is-folded-requires c κs = search needs
+
+returns-3 : tie.Need-returns-3
+unfolding fits
+returns-3 c =
+    let w : isFolded (entryOf (c .before .before .before .before .before .before .before .before .before .args .slot .now) .word) ≡ false = sym (c .before .is-folded .ensures ∙ ap isFolded (c .before .before .word2 .ensures)) ∙ not-true (c .before .is-folded .result) (c .if3 .taken) in
+    rw (isLow (c .before .before .before .before .before .before), worded (c .before .before .before), w)
+
+byte-at-requires : tie.Need-byte-at-requires
+byte-at-requires c κs = search needs
+
+returns-4 : tie.Need-returns-4
+unfolding fits
+returns-4 c =
+    let r = c .before .before .before .before .before .before .before .before .before .before .before .args .slot .now in
+    let b = c .before .byte-at .ensures in
+    let n : leb (length (entryOf r .phones)) 24 ≡ false = count-fits r (c .before .before .before .before .before .before .before .before .before .before .before .pre) ∙ lt-leb (getD r 51 0) 24 (omega arith) in
+    rw (isLow (c .before .before .before .before .before .before .before .before), worded (c .before .before .before .before .before), small (c .before .before), n)
+
+phones-requires : tie.Need-phones-requires
+phones-requires c κs = search needs
+
+are-ascii-requires : tie.Need-are-ascii-requires
+are-ascii-requires c κs = search needs
+
+returns-5 : tie.Need-returns-5
+unfolding fits
+returns-5 c =
+    let r = c .before .before .before .before .before .before .before .before .before .before .before .before .before .args .slot .now in
+    let b = c .before .before .before .byte-at .ensures in
+    let n : leb (length (entryOf r .phones)) 24 ≡ true = count-fits r (c .before .before .before .before .before .before .before .before .before .before .before .before .before .pre) ∙ le-leb (getD r 51 0) 24 (omega arith) in
+    rw (isLow (c .before .before .before .before .before .before .before .before .before .before), worded (c .before .before .before .before .before .before .before), small (c .before .before .before .before), n, ← c .before .phones .ensures) (c .are-ascii .ensures ∙ sym (phones-fit (c .before .phones .result .now)))
+
+pub is-fit-spec : {M : Type 1} → statement M
+is-fit-spec =
+    tie.close
+    (tie.spec
+    tag-requires
+    returns
+    word-requires
+    is-word-requires
+    returns-2
+    word-requires-2
+    is-folded-requires
+    returns-3
+    byte-at-requires
+    returns-4
+    phones-requires
+    are-ascii-requires
+    returns-5)

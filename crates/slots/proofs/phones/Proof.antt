@@ -1,0 +1,31 @@
+-- `slots::phones` meets its contract: as many cells from 64 on as byte 51 tells. Assumes nothing.
+use native.Mathlib.Omega.{arith}
+use Rattle.slots.specs.Slot.{entryOf}
+use mathlib.Core.Path.{_≡_, ap, _∙_}
+use borrow.Author.Needs.{needs}
+use Rattle.slots.proofs.phones.Statement.{statement}
+use Rattle.slots.proofs.phones.Tie as tie
+
+tail-requires : tie.Need-tail-requires
+tail-requires c κs = search needs
+
+byte-at-requires : tie.Need-byte-at-requires
+byte-at-requires c κs = search needs
+
+wide-requires : tie.Need-wide-requires
+wide-requires c κs = search needs
+
+mul-head : tie.Need-mul-head
+mul-head c = search needs
+
+head-requires : tie.Need-head-requires
+head-requires c κs = search needs
+
+returns : tie.Need-returns
+unfolding entryOf
+returns c = rw (c .head .ensures, c .before .before .before .tail .ensures, c .before .wide .ensures .0, c .before .before .byte-at .ensures)
+
+pub phones-spec : {M : Type 1} → statement M
+phones-spec =
+    tie.close
+    (tie.spec tail-requires byte-at-requires wide-requires mul-head head-requires returns)

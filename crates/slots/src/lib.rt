@@ -1,0 +1,120 @@
+// One slot of the store (01, Store and sheet): 512 bytes that hold an entry, written whole and read.
+ghost use mathlib.Core.Path.{_≡_};
+ghost use mathlib.Core.List.{map};
+ghost use Prim.Native.Nat.{_+_, _/_, _≤_, _<_};
+ghost use lib.ListN.{length};
+ghost use lib.Seq.{paste};
+ghost use Rattle.texts.specs.Text.{folded};
+ghost use Rattle.cells.specs.Cells.{phonesOf};
+ghost use Rattle.slots.specs.Slot.{slot as slotOf, entryOf, isFolded, fits, isSlot};
+
+// A word into dst from k on, folded.
+pub fn put_folded(dst: &mut [u8], k: usize, word: &[u8])
+    requires { ⌜ k + length (now word) ≤ length (now dst) ⌝ }
+    ensures { λ _. ⌜ now (dst .exit) ≡ paste (now (dst .entry)) k (map folded (now (word .entry))) (length (now (word .entry))) ⌝ }
+{
+    let mut j = 0;
+    while j < word.len() {
+        dst[k + j] = texts::fold(word[j]);
+        j += 1;
+    }
+}
+
+// An entry as a slot that nothing follows, its word folded.
+pub fn write(slot: &mut [u8], tag: u8, word: &[u8], phones: &[u8])
+    requires { ⌜ (length (now slot) ≡ 512) × (length (now word) ≤ 47) × (length (now phones) / 16 ≤ 24) ⌝ }
+    ensures { λ _. ⌜ now (slot .exit) ≡ slotOf 0 (record { tag = tag; word = map folded (now (word .entry)); phones = phonesOf (now (phones .entry)) }) ⌝ }
+{
+    let n = word.len();
+    let count = phones.len() / 16;
+    records::put_u16(slot, 0, 0);
+    slot[2] = tag;
+    slot[3] = n as u8;
+    put_folded(slot, 4, word);
+    records::clear(slot, 4 + n, 47 - n);
+    slot[51] = count as u8;
+    records::clear(slot, 52, 12);
+    cells::put_phones(slot, 4, phones);
+    records::clear(slot, 64 + 16 * count, 448 - 16 * count);
+}
+
+pub fn tag(slot: &[u8]) -> u8
+    ensures { λ r. ⌜ r ≡ entryOf (now (slot .entry)) .tag ⌝ }
+{
+    records::byte_at(slot, 2)
+}
+
+pub fn word(slot: &[u8]) -> &[u8]
+    ensures { λ r. ⌜ now r ≡ entryOf (now (slot .entry)) .word ⌝ }
+{
+    records::head(
+        records::tail(slot, 4),
+        texts::wide(records::byte_at(slot, 3)),
+    )
+}
+
+// The phones as cells.
+pub fn phones(slot: &[u8]) -> &[u8]
+    ensures { λ r. ⌜ phonesOf (now r) ≡ entryOf (now (slot .entry)) .phones ⌝ }
+{
+    records::head(
+        records::tail(slot, 64),
+        16 * texts::wide(records::byte_at(slot, 51)),
+    )
+}
+
+// Whether case folding leaves a word as it is.
+fn is_folded(word: &[u8]) -> bool
+    ensures { λ r. ⌜ r ≡ isFolded (now (word .entry)) ⌝ }
+{
+    let mut i = 0;
+    while i < word.len() {
+        if texts::fold(word[i]) != word[i] {
+            return false;
+        }
+        i += 1;
+    }
+    true
+}
+
+// Whether the entry that a slot holds may be one.
+fn is_fit(slot: &[u8]) -> bool
+    requires { ⌜ length (now slot) ≡ 512 ⌝ }
+    ensures { λ r. ⌜ r ≡ fits (entryOf (now (slot .entry))) ⌝ }
+{
+    if 128 <= tag(slot) {
+        return false;
+    }
+    if !texts::is_word(word(slot)) {
+        return false;
+    }
+    if !is_folded(word(slot)) {
+        return false;
+    }
+    if 24 < records::byte_at(slot, 51) {
+        return false;
+    }
+    cells::are_ascii(phones(slot))
+}
+
+// Whether a slot is what would be written for the entry it holds; room is as long as a slot.
+fn is_written(slot: &[u8], room: &mut [u8]) -> bool
+    requires { ⌜ (length (now slot) ≡ 512) × (length (now room) ≡ 512) ⌝ }
+    ensures { λ r. ⌜ r ≡ isSlot (now (slot .entry)) ⌝ }
+{
+    if !is_fit(slot) {
+        return false;
+    }
+    write(room, tag(slot), word(slot), phones(slot));
+    records::put_u16(room, 0, records::u16_at(slot, 0));
+    texts::same(slot, room)
+}
+
+// Whether a slot is sound by itself.
+pub fn is_slot(slot: &[u8]) -> bool
+    requires { ⌜ length (now slot) ≡ 512 ⌝ }
+    ensures { λ r. ⌜ r ≡ isSlot (now (slot .entry)) ⌝ }
+{
+    let mut room = [0u8; 512];
+    is_written(slot, &mut room)
+}

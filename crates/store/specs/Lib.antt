@@ -1,0 +1,16 @@
+pub mod Store
+pub mod Adding
+pub mod Sound
+pub mod Bytes
+pub mod Keys
+pub mod Sought
+pub mod Cut
+pub mod Tied
+pub mod Result
+pub mod New
+pub mod Known
+pub mod Added
+pub mod Found
+pub mod Fresh
+pub mod Placed
+pub mod Turns
