@@ -11,7 +11,7 @@ use lib.ListN.{length, getD, take, drop, replicate, length-append, length-replic
 use lib.Seq.{paste, take-at, drop-at, take-all, take-append-add, take-append-seam}
 use Rattle.texts.specs.Lists.{every}
 use Rattle.texts.specs.Text.{ascii}
-use Rattle.records.specs.Records.{firstRecords, records, recordAt, putRecord, record-of, records-from, length-records, paste-more}
+use Rattle.records.specs.Records.{firstRecords, records, recordAt, putRecord, record-of, records-from, length-records, paste-more, paste-front}
 
 -- the text of a cell: so many of its 15 bytes as the length byte says
 unfoldable pub text : List ℕ → List ℕ
@@ -132,3 +132,11 @@ phones-cells ps h =
     let n = length-cellsOf ps h in
     let e : length (cellsOf ps) / 16 ≡ length ps = omega arith in
     rw e (first-cells ps h)
+
+-- all cells of a list at the front of a buffer
+pub cells-front : (d : List ℕ) (ps : List (List ℕ)) (n : ℕ) → ((i : ℕ) → i < length ps → length (getD ps i []) ≤ 15) → length ps ≡ n
+    → paste d 0 (cellsOf ps) (16 * n) ≡ cellsOf ps ++ drop (16 * length ps) d
+cells-front d ps n h e =
+    let l = length-cellsOf ps h in
+    let k : 16 * n ≡ length (cellsOf ps) = omega arith in
+    ap (λ (m : ℕ). paste d 0 (cellsOf ps) m) k ∙ paste-front d (cellsOf ps) ∙ ap (λ (m : ℕ). cellsOf ps ++ drop m d) l

@@ -1,9 +1,13 @@
 -- 01, check lexicon: refusal 1; yes exactly when no entry is damaged, every number has a phone and words don't fall.
 -- Assumes nothing.
-use Prim.Native.Nat.{ℕ, _+_, _-_}
-use mathlib.Core.Bool.{Bool, not, _&&_}
+use Prim.Native.Nat.{ℕ, _+_, _-_, _*_, _≤_}
+use mathlib.Core.Path.{_≡_}
+use mathlib.Core.Bool.{Bool, true, not, _&&_}
 use mathlib.Core.List.{List}
-use Rattle.texts.specs.Choice.{if_then_else_, bit}
+use lib.Dec.{leb}
+use lib.ListN.{length}
+use borrow.Author.Tests.{leb-true}
+use Rattle.texts.specs.Choice.{if_then_else_, bit, both-true}
 use Rattle.texts.specs.Lists.{every, upTo}
 use Rattle.texts.specs.Text.{smaller}
 use Rattle.data.specs.Sections.{isPhoneTable, isLexIndex}
@@ -28,3 +32,13 @@ isChecked phones index dat = every (isGood phones index dat) (upTo (count index)
 
 unfoldable pub checkLexicon : List ℕ → List ℕ → List ℕ → Answer
 checkLexicon phones index dat = if not (isLexicon phones index) then refused 1 0 else accepted (bit (isChecked phones index dat)) 0
+
+-- what the form of the sections gives: a table of phones, and room for the offsets
+pub lexicon-table : (phones index : List ℕ) → isLexicon phones index ≡ true → isPhoneTable phones ≡ true
+unfolding isLexicon
+lexicon-table phones index h = both-true (isPhoneTable phones) (isLexIndex index) h .0
+
+pub index-room : (phones index : List ℕ) → isLexicon phones index ≡ true → 4 + 4 * count index ≤ length index
+unfolding isLexicon isLexIndex
+index-room phones index h =
+    leb-true (4 + 4 * count index) (length index) (both-true (leb 4 (length index)) (leb (4 + 4 * count index) (length index)) (both-true (isPhoneTable phones) (isLexIndex index) h .1) .1)

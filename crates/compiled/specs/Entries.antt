@@ -1,14 +1,17 @@
 -- 01, Lookup: a compiled entry at its lex.data offset is tag, word length, word, phone count, phone numbers.
 -- Assumes nothing.
-use Prim.Native.Nat.{ℕ, _+_, _*_}
-use mathlib.Core.Bool.{Bool, _&&_}
+use Prim.Native.Nat.{ℕ, _+_, _*_, _≤_, _<_}
+use native.Mathlib.Omega.{arith}
+use mathlib.Core.Path.{_≡_}
+use mathlib.Core.Bool.{Bool, true, _&&_}
 use mathlib.Core.List.{List, [], map}
 use lib.Dec.{leb, ltb}
-use lib.ListN.{length, getD, take, drop}
-use Rattle.texts.specs.Lists.{every}
+use lib.ListN.{length, getD, take, drop, length-map}
+use borrow.Author.Tests.{ltb-true}
+use Rattle.texts.specs.Lists.{every, every-at, getD-map}
 use Rattle.texts.specs.Text.{ascii}
 use Rattle.records.specs.Fields.{u32At}
-use Rattle.data.specs.Sections.{tablePhones}
+use Rattle.data.specs.Sections.{isPhoneTable, tablePhones, table-fits}
 
 -- the parts of an entry at the front of bytes
 unfoldable pub tagOf : List ℕ → ℕ
@@ -39,3 +42,21 @@ isSpoken table s = every (λ (n : ℕ). ltb n (u32At table 0)) (numbersOf s)
 -- the phones of an entry
 unfoldable pub phonesOf : List ℕ → List ℕ → List (List ℕ)
 phonesOf table s = map (λ (n : ℕ). getD (tablePhones table) n []) (numbersOf s)
+
+-- an entry has as many phones as numbers, each the one of its number, which the table has
+pub length-spoken : (table s : List ℕ) → length (phonesOf table s) ≡ length (numbersOf s)
+unfolding phonesOf
+length-spoken table s = length-map (numbersOf s) (λ (n : ℕ). getD (tablePhones table) n [])
+
+pub spoken-at : (table s : List ℕ) (i : ℕ) → i < length (numbersOf s) → getD (phonesOf table s) i [] ≡ getD (tablePhones table) (getD (numbersOf s) i 0) []
+unfolding phonesOf
+spoken-at table s i h = getD-map (λ (n : ℕ). getD (tablePhones table) n []) (numbersOf s) i 0 [] h
+
+pub number-in : (table s : List ℕ) (i : ℕ) → isSpoken table s ≡ true → i < length (numbersOf s) → getD (numbersOf s) i 0 < u32At table 0
+unfolding isSpoken
+number-in table s i e h = ltb-true (getD (numbersOf s) i 0) (u32At table 0) (every-at (λ (n : ℕ). ltb n (u32At table 0)) (numbersOf s) 0 e i h)
+
+pub spoken-fits : (table s : List ℕ) → isPhoneTable table ≡ true → isSpoken table s ≡ true → (i : ℕ) → i < length (phonesOf table s) → length (getD (phonesOf table s) i []) ≤ 15
+spoken-fits table s t e i h =
+    let l = length-spoken table s in
+    rw (spoken-at table s i (omega arith)) (table-fits table (getD (numbersOf s) i 0) t (number-in table s i e (omega arith)) .short)

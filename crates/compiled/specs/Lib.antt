@@ -4,3 +4,4 @@ pub mod Search
 pub mod Call
 pub mod Order
 pub mod Checked
+pub mod Below

@@ -6,7 +6,7 @@ ghost use Rattle.compiled.specs.Entries.{tagOf, wordOf, numbersOf, isWho
 
 // Entry i: the bytes from its offset on.
 pub fn entry<'a>(index: &[u8], lex_data: &'a [u8], i: usize) -> &'a [u8]
-    requires { ⌜ i < 2 ^ 32 ⌝ }
+    requires { ⌜ i < 2 ^ 61 ⌝ }
     ensures { λ r. ⌜ now r ≡ entryAt (now (index .entry)) (now (lex_data .entry)) i ⌝ }
 {
     records::tail(lex_data, records::u32_at(index, 4 + 4 * i) as usize)

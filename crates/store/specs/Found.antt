@@ -37,12 +37,22 @@ first-nothing wanted (x ∷ xs) n =
     let ih = first-nothing wanted xs (s .1) in
     rw (s .0, ih)
 
+-- the entry in slot n, none for slot 0
+abbrev pub foundAt : List ℕ → ℕ → Option Entry
+foundAt b n = if eqb n 0 then nothing else just (entryAt b n)
+
+pub found-none : (b : List ℕ) (n : ℕ) → n ≡ 0 → foundAt b n ≡ nothing
+found-none b n e = rw (eq-eqb n 0 e)
+
+pub found-some : (b : List ℕ) (n : ℕ) → n ≢ 0 → foundAt b n ≡ just (entryAt b n)
+found-some b n ne = rw (ne-eqb n 0 ne)
+
 -- what the slot that a search tells says of the entries
 pub record Tells (b : List ℕ) (wanted : Entry → Bool) (p : ℕ) : Type 0 where
   pub at : p ≤ used b
   pub behind : next b p ≤ used b
   pub whether : some wanted (entries b) ≡ not (eqb (next b p) 0)
-  pub which : first wanted (entries b) ≡ (if eqb (next b p) 0 then nothing else just (entryAt b (next b p)))
+  pub which : first wanted (entries b) ≡ foundAt b (next b p)
 
 pub tells : (b : List ℕ) (wanted : Entry → Bool) (s : Sound b) → Tells b wanted (seek b wanted (used b) 0)
 tells b wanted s = go (seek b wanted (used b) 0) (sought b wanted (used b) 0 (s .chained) (s .linked) (omega (arith, s .all)))

@@ -1,0 +1,81 @@
+-- `lexicon::looking::give_compiled` meets its contract: what was chosen decides. Assumes nothing.
+use Rattle.lexicon.specs.Lookup.{fromCompiled}
+use Rattle.compiled.specs.declared.Chosen.the-variants.{Entry}
+use Rattle.compiled.specs.declared.Chosen.{Chosen}
+use Rattle.compiled.specs.Call.{isLexicon, lexicon-table, index-room}
+use Rattle.compiled.specs.Below.{Below, below}
+use Rattle.compiled.specs.Search.{chosen}
+use Rattle.compiled.specs.Entries.{count}
+use Rattle.data.specs.Sections.{isPhoneTable, isLexIndex}
+use Rattle.texts.specs.Choice.{both-true}
+use borrow.Author.Tests.{leb-true}
+use lib.ListN.{length}
+use lib.Dec.{leb}
+use mathlib.Core.Bool.{true, false, _&&_}
+use mathlib.Core.Path.{_≡_, refl, sym, ap, _∙_, subst}
+use native.Mathlib.Omega.{arith}
+use Prim.Native.Nat.{ℕ, _+_, _*_, _≤_, _<_, _^_}
+use borrow.Author.Needs.{needs}
+use Rattle.lexicon.proofs.looking.give_compiled.Statement.{statement}
+use Rattle.lexicon.proofs.looking.give_compiled.Tie as tie
+
+place : (c : tie.After-known-told) → chosen (c .before .before .before .before .before .before .before .before .before .args .index .now) (c .before .before .before .before .before .before .before .before .before .args .dat .now) (c .before .before .before .before .before .before .before .before .before .args .word .now) (c .before .before .before .before .before .before .before .before .before .args .tag) ≡ Entry (c .before .i .given .0 .0)
+place c = sym (c .before .before .before .choose .ensures) ∙ c .before .i .given .1
+
+choose-requires : tie.Need-choose-requires
+choose-requires c κs = search needs
+
+enum-told : tie.Need-enum-told
+enum-told c = search needs
+
+enum-told-2 : tie.Need-enum-told-2
+enum-told-2 c = search needs
+
+enum-known-i : tie.Need-enum-known-i
+enum-known-i c = search needs
+
+entry-requires : tie.Need-entry-requires
+entry-requires c κs =
+    let a = c .before .before .before .before .before .before .before .before .before .args in
+    let b : c .before .i .given .0 .0 < count (a .index .now) = subst (λ (x : Chosen). Below (count (a .index .now)) x) (place (c)) (below (a .index .now) (a .dat .now) (a .word .now) (a .tag)) in
+    let l = index-room (a .phones .now) (a .index .now) (c .before .before .before .before .before .before .before .before .before .pre) in
+    omega arith
+
+give-spoken-requires : tie.Need-give-spoken-requires
+give-spoken-requires c κs = lexicon-table (c .before .before .before .before .before .before .before .before .before .before .before .args .phones .now) (c .before .before .before .before .before .before .before .before .before .before .before .args .index .now) (c .before .before .before .before .before .before .before .before .before .before .before .pre)
+
+returns : tie.Need-returns
+unfolding fromCompiled
+returns c =
+    let e = sym (c .before .before .choose .ensures) ∙ c .enum-told .given .1 in
+    (rw e, rw e)
+
+returns-2 : tie.Need-returns-2
+unfolding fromCompiled
+returns-2 c =
+    let e = sym (c .before .before .choose .ensures) ∙ c .enum-told2 .given .1 in
+    (rw e, rw e)
+
+same-length : tie.Need-same-length
+same-length c = c .before .before .give-spoken .kept .1 .1 .0
+
+returns-3 : tie.Need-returns-3
+unfolding fromCompiled
+returns-3 c =
+    let e = place (c .before .before .before .before .before) in
+    rw (e, ← c .before .before .before .before .entry .ensures) (c .before .before .give-spoken .ensures)
+
+pub give-compiled-spec : {M : Type 1} → statement M
+give-compiled-spec =
+    tie.close
+    (tie.spec
+    choose-requires
+    enum-told
+    enum-told-2
+    enum-known-i
+    entry-requires
+    give-spoken-requires
+    returns
+    returns-2
+    same-length
+    returns-3)
