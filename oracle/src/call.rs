@@ -1,5 +1,6 @@
 //! What every call of the comparison has: its inputs, what is expected of each, what the library does.
 
+use crate::notation;
 use crate::ours::Answer;
 use crate::random::Random;
 use std::panic::{catch_unwind, AssertUnwindSafe};
@@ -9,7 +10,7 @@ use std::sync::atomic::{AtomicBool, Ordering};
 #[derive(Clone, PartialEq, Eq)]
 pub struct Outcome {
     pub answer: Answer,
-    /// The output buffer at exit.
+    /// The bytes that the call may write, at exit: an output, a store, or a store and a spare.
     pub output: Vec<u8>,
     /// Lent bytes that were altered though nothing may alter them.
     pub altered: Option<&'static str>,
@@ -17,9 +18,9 @@ pub struct Outcome {
 
 /// What 01 and the original ask of an input.
 pub struct Expected {
-    /// The output buffer to hand in.
+    /// The same bytes as they are handed in.
     pub handed: Vec<u8>,
-    /// The outcome, or what the original said when it panicked.
+    /// The outcome, or why there is none: the original panicked, or it is at odds with 01.
     pub outcome: Result<Outcome, String>,
     /// Whether the original was asked; most refusals are 01's alone.
     pub asked: bool,
@@ -33,7 +34,7 @@ impl Expected {
     pub fn refused(refusal: u32, handed: Vec<u8>, met: Vec<&'static str>) -> Expected {
         Expected {
             outcome: Ok(Outcome {
-                answer: Answer::refused(refusal),
+                answer: Answer::refused(refusal, 0),
                 output: handed.clone(),
                 altered: None,
             }),
@@ -45,12 +46,25 @@ impl Expected {
     }
 
     pub fn panicked(said: String, handed: Vec<u8>) -> Expected {
+        Expected::at_odds(format!("the original panics: {said}"), handed)
+    }
+
+    /// The original does not do what 01, as the driver reads it, says of it.
+    pub fn at_odds(why: String, handed: Vec<u8>) -> Expected {
         Expected {
             handed,
-            outcome: Err(said),
+            outcome: Err(why),
             asked: true,
             row: "",
             met: vec![],
+        }
+    }
+
+    /// The same of an answer that the original has no part in.
+    pub fn by_01(self) -> Expected {
+        Expected {
+            asked: false,
+            ..self
         }
     }
 
@@ -78,12 +92,17 @@ impl Expected {
     }
 }
 
-fn refusal_row(refusal: u32) -> &'static str {
+/// The row that counts a refusal.
+pub fn refusal_row(refusal: u32) -> &'static str {
     match refusal {
         1 => "refusal 1",
+        2 => "refusal 2",
         3 => "refusal 3",
+        4 => "refusal 4",
+        5 => "refusal 5",
         6 => "refusal 6",
         7 => "refusal 7",
+        8 => "refusal 8",
         9 => "refusal 9",
         _ => unreachable!("no call compared here gives refusal {refusal}"),
     }
@@ -92,14 +111,16 @@ fn refusal_row(refusal: u32) -> &'static str {
 pub trait Call {
     type Input: Clone;
     const NAME: &'static str;
-    /// How many of a hundred random calls are this one.
+    /// How many random calls are this one, beside the shares of the others.
     const SHARE: usize;
-    /// How many of a hundred recorded cases are this one.
+    /// How many recorded cases are this one, beside the shares of the others.
     const SHARE_RECORDED: usize;
     /// The rows that count answers; each input counts in one of them.
     const ANSWERS: &'static [&'static str];
     /// The rows that count what inputs met.
     const MET: &'static [&'static str];
+    /// More of them, which other calls have too.
+    const ALSO_MET: &'static [&'static [&'static str]] = &[];
 
     /// Edge cases, and every short input.
     fn short(&self) -> Vec<Self::Input>;
@@ -116,6 +137,11 @@ pub trait Call {
 
     /// The input as a line of the recorded list, up to its arrow.
     fn show(&self, input: &Self::Input, handed: &[u8]) -> String;
+
+    /// What the call wrote, as a difference tells it.
+    fn show_output(&self, output: &[u8]) -> String {
+        notation::phone_list(output)
+    }
 
     /// Lines of the recorded list, at least so many of them cases.
     fn record(&self, random: &mut Random, cases: usize) -> Vec<String>;

@@ -27,10 +27,26 @@ impl Drop for Forever {
     }
 }
 
-/// Something that the original reads out of a container, and the container's bytes.
+/// Something of the original's that reads bytes, and the bytes.
 pub struct Held<T> {
     pub reader: T,
     _bytes: Forever,
+}
+
+/// Hands texts to the original that are to live as long as what it makes of them.
+pub fn hold_texts<T>(texts: &[&[u8]], make: impl FnOnce(Vec<&'static str>) -> T) -> Held<T> {
+    let bytes = Forever::new(texts.concat());
+    let mut rest = bytes.bytes();
+    let mut held = vec![];
+    for text in texts {
+        let (front, behind) = rest.split_at(text.len());
+        held.push(std::str::from_utf8(front).expect("the texts of a sound store are ASCII"));
+        rest = behind;
+    }
+    Held {
+        reader: make(held),
+        _bytes: bytes,
+    }
 }
 
 /// Hands sections to the original the only way it takes them: as a container.

@@ -5,6 +5,10 @@ mod calls;
 mod cells;
 mod forever;
 mod lent;
+mod lexicon_edges;
+mod lexicon_shapes;
+mod lexicons;
+mod lines;
 mod machines;
 mod notation;
 mod ours;
@@ -12,15 +16,23 @@ mod phones;
 mod random;
 mod record;
 mod run;
+mod scene;
 mod shapes;
 mod shrink;
+mod store_edges;
+mod store_shapes;
+mod stores;
 mod tally;
 mod trees;
 mod words;
 
-use calls::{is_sayable, is_vowel, predict, split_stress, syllabify};
+use calls::{add_entries, add_entry, check_lexicon, is_sayable, is_vowel, lookup};
+use calls::{new_store, predict, split_stress, syllabify};
 use run::{Compared, Limit, Runner};
 use std::process::ExitCode;
+
+/// Whether the library exports add_entries yet; true compares and records it like the others.
+const ADD_ENTRIES: bool = false;
 
 const USAGE: &str =
     "usage: oracle [--calls N | --seconds N] [--seed N] [--record FOLDER --count N]";
@@ -48,7 +60,14 @@ fn main() -> ExitCode {
         Box::new(Runner::new(is_sayable::IsSayable::default(), seed)),
         Box::new(Runner::new(is_vowel::IsVowel::new(), seed)),
         Box::new(Runner::new(split_stress::SplitStress::new(), seed)),
+        Box::new(Runner::new(check_lexicon::CheckLexicon::new(), seed)),
+        Box::new(Runner::new(lookup::Lookup::new(), seed)),
+        Box::new(Runner::new(new_store::NewStore, seed)),
+        Box::new(Runner::new(add_entry::AddEntry::new(), seed)),
     ];
+    if ADD_ENTRIES {
+        calls.push(Box::new(Runner::new(add_entries::AddEntries::new(), seed)));
+    }
     if let Some(folder) = &arguments.record {
         return match record::write(&calls, folder, seed, arguments.count) {
             Ok(()) => ExitCode::SUCCESS,

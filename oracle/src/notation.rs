@@ -2,6 +2,8 @@
 //! `<text>` (a length byte and a text), `[text]` (a cell of 16 bytes), or `{N}` and a piece N times.
 
 use crate::cells::{cell, CELL};
+use crate::lexicons::Sections;
+use crate::stores::{MOST_PHONES, SLOT};
 use crate::trees::phone_names;
 
 /// Any bytes.
@@ -40,6 +42,37 @@ pub fn phone_table(table: &[u8]) -> String {
         rest = behind;
     }
     or_dot(text + &pieces(rest))
+}
+
+/// The three sections of a lexicon.
+pub fn lexicon(sections: &Sections) -> String {
+    let tables = [
+        phone_table(&sections.phones),
+        bytes(&sections.index),
+        bytes(&sections.data),
+    ];
+    tables.join(" ")
+}
+
+/// A store: slot by slot up to the last that is used, with its phones as cells; then the bytes behind.
+pub fn store(store: &[u8]) -> String {
+    let used = match store.get(4..6) {
+        Some(used) => usize::from(u16::from_le_bytes([used[0], used[1]])),
+        None => 0,
+    };
+    let (front, behind) = store.split_at((SLOT * (used + 1)).min(store.len()));
+    let mut text = String::new();
+    for (i, slot) in front.chunks(SLOT).enumerate() {
+        // the phones stand from 64 on, their count at 51
+        let count = slot.get(51).map_or(0, |count| usize::from(*count));
+        if i == 0 || slot.len() < SLOT || count == 0 || count > MOST_PHONES {
+            text += &pieces(slot);
+            continue;
+        }
+        text += &pieces(&slot[..64]);
+        text += &cells_of(&slot[64..], count);
+    }
+    or_dot(text + &pieces(behind))
 }
 
 fn cells_of(list: &[u8], count: usize) -> String {

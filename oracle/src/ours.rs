@@ -21,11 +21,12 @@ impl Answer {
         }
     }
 
-    pub fn refused(refusal: u32) -> Answer {
+    /// A refusal; its line is 0 except in add_entries.
+    pub fn refused(refusal: u32, line: usize) -> Answer {
         Answer {
             refusal,
             kind: 0,
-            value: 0,
+            value: line as u64,
             second: 0,
             third: 0,
         }
@@ -62,6 +63,53 @@ extern "C" {
     ) -> Answer;
     fn pronouncer_is_vowel(phone: *const u8, phone_len: usize) -> Answer;
     fn pronouncer_split_stress(phone: *const u8, phone_len: usize) -> Answer;
+    fn pronouncer_check_lexicon(
+        phones: *const u8,
+        phones_len: usize,
+        index: *const u8,
+        index_len: usize,
+        data: *const u8,
+        data_len: usize,
+    ) -> Answer;
+    fn pronouncer_lookup(
+        phones: *const u8,
+        phones_len: usize,
+        index: *const u8,
+        index_len: usize,
+        data: *const u8,
+        data_len: usize,
+        store: *const u8,
+        store_len: usize,
+        word: *const u8,
+        word_len: usize,
+        tag: *const u8,
+        tag_len: usize,
+        out: *mut u8,
+        out_len: usize,
+    ) -> Answer;
+    fn pronouncer_new_store(store: *mut u8, store_len: usize) -> Answer;
+    fn pronouncer_add_entry(
+        lex_phones: *const u8,
+        lex_phones_len: usize,
+        store: *mut u8,
+        store_len: usize,
+        word: *const u8,
+        word_len: usize,
+        tag: *const u8,
+        tag_len: usize,
+        phones: *const u8,
+        phones_len: usize,
+    ) -> Answer;
+    fn pronouncer_add_entries(
+        phones: *const u8,
+        phones_len: usize,
+        store: *mut u8,
+        store_len: usize,
+        spare: *mut u8,
+        spare_len: usize,
+        text: *const u8,
+        text_len: usize,
+    ) -> Answer;
 }
 
 pub fn predict(phones: &[u8], index: &[u8], model: &[u8], word: &[u8], out: &mut [u8]) -> Answer {
@@ -116,4 +164,91 @@ pub fn is_vowel(phone: &[u8]) -> Answer {
 pub fn split_stress(phone: &[u8]) -> Answer {
     // SAFETY: pointer and length are a whole slice; it is not written.
     unsafe { pronouncer_split_stress(phone.as_ptr(), phone.len()) }
+}
+
+pub fn check_lexicon(phones: &[u8], index: &[u8], data: &[u8]) -> Answer {
+    // SAFETY: each pointer and length is a whole slice; none is written.
+    unsafe {
+        pronouncer_check_lexicon(
+            phones.as_ptr(),
+            phones.len(),
+            index.as_ptr(),
+            index.len(),
+            data.as_ptr(),
+            data.len(),
+        )
+    }
+}
+
+pub fn lookup(
+    [phones, index, data]: [&[u8]; 3],
+    store: &[u8],
+    word: &[u8],
+    tag: &[u8],
+    out: &mut [u8],
+) -> Answer {
+    // SAFETY: each pointer and length is a whole slice; only `out` is written.
+    unsafe {
+        pronouncer_lookup(
+            phones.as_ptr(),
+            phones.len(),
+            index.as_ptr(),
+            index.len(),
+            data.as_ptr(),
+            data.len(),
+            store.as_ptr(),
+            store.len(),
+            word.as_ptr(),
+            word.len(),
+            tag.as_ptr(),
+            tag.len(),
+            out.as_mut_ptr(),
+            out.len(),
+        )
+    }
+}
+
+pub fn new_store(store: &mut [u8]) -> Answer {
+    // SAFETY: pointer and length are a whole slice.
+    unsafe { pronouncer_new_store(store.as_mut_ptr(), store.len()) }
+}
+
+pub fn add_entry(
+    lex_phones: &[u8],
+    store: &mut [u8],
+    word: &[u8],
+    tag: &[u8],
+    phones: &[u8],
+) -> Answer {
+    // SAFETY: each pointer and length is a whole slice; only `store` is written.
+    unsafe {
+        pronouncer_add_entry(
+            lex_phones.as_ptr(),
+            lex_phones.len(),
+            store.as_mut_ptr(),
+            store.len(),
+            word.as_ptr(),
+            word.len(),
+            tag.as_ptr(),
+            tag.len(),
+            phones.as_ptr(),
+            phones.len(),
+        )
+    }
+}
+
+pub fn add_entries(phones: &[u8], store: &mut [u8], spare: &mut [u8], text: &[u8]) -> Answer {
+    // SAFETY: each pointer and length is a whole slice; only `store` and `spare` are written.
+    unsafe {
+        pronouncer_add_entries(
+            phones.as_ptr(),
+            phones.len(),
+            store.as_mut_ptr(),
+            store.len(),
+            spare.as_mut_ptr(),
+            spare.len(),
+            text.as_ptr(),
+            text.len(),
+        )
+    }
 }

@@ -21,6 +21,9 @@ pub fn write(calls: &[Box<dyn Compared>], folder: &str, seed: u64, count: usize)
     std::fs::create_dir_all(folder)?;
     for call in calls {
         let lines = call.record((count * call.share_recorded()).div_ceil(shares));
+        if lines.is_empty() {
+            continue;
+        }
         for (number, text) in parts(&head, &lines).iter().enumerate() {
             let name = format!("{folder}/{}-{}.txt", call.name(), number + 1);
             std::fs::write(name, text)?;

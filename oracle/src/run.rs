@@ -1,7 +1,6 @@
 //! A run: the short inputs of every call, then random ones up to the limit, then the table.
 
 use crate::call::{Call, Outcome};
-use crate::notation;
 use crate::random::Random;
 use crate::shrink::{compare, shrink, Difference};
 use crate::tally::{grouped, Tally};
@@ -30,7 +29,7 @@ impl<C: Call> Runner<C> {
             call,
             random: Random::new(seed, C::NAME),
             seed,
-            tally: Tally::new(C::NAME, C::ANSWERS, C::MET),
+            tally: Tally::new(C::NAME, C::ANSWERS, &[&[C::MET], C::ALSO_MET].concat()),
         }
     }
 
@@ -63,15 +62,48 @@ impl<C: Call> Runner<C> {
     fn both(&self, input: &C::Input, difference: &Difference) -> String {
         let expected = &difference.expected;
         let wanted = match &expected.outcome {
-            Ok(outcome) => told(outcome),
-            Err(said) => format!("the original panics: {said}"),
+            Ok(outcome) => self.outcome(outcome),
+            Err(why) => why.clone(),
         };
         let by = if expected.asked { "the Rust" } else { "01" };
+        let first = match &expected.outcome {
+            Ok(outcome) => first_difference(&outcome.output, &difference.ours.output),
+            Err(_) => String::new(),
+        };
         format!(
-            "  {}\n  {by:<9} {wanted}\n  ours      {}",
+            "  {}\n  {by:<9} {wanted}\n  ours      {}{first}",
             clipped(self.call.show(input, &expected.handed)),
-            told(&difference.ours),
+            self.outcome(&difference.ours),
         )
+    }
+
+    fn outcome(&self, outcome: &Outcome) -> String {
+        let a = outcome.answer;
+        let altered = outcome
+            .altered
+            .map_or(String::new(), |what| format!(", altered {what}"));
+        let rest = match (a.second, a.third) {
+            (0, 0) => String::new(),
+            (second, third) => format!(", second {second}, third {third}"),
+        };
+        format!(
+            "refusal {} kind {} value {}{rest}, output {}{altered}",
+            a.refusal,
+            a.kind,
+            a.value,
+            clipped(self.call.show_output(&outcome.output)),
+        )
+    }
+}
+
+/// Where two outputs differ first, if they do.
+fn first_difference(wanted: &[u8], ours: &[u8]) -> String {
+    let pairs = wanted.iter().zip(ours).enumerate();
+    match pairs.into_iter().find(|(_, (wanted, ours))| wanted != ours) {
+        Some((at, (wanted, ours))) => {
+            format!("\n  first at  byte {at} of the output: {wanted:02x}, ours {ours:02x}")
+        }
+        None => String::new(),
     }
 }
 
@@ -82,24 +114,6 @@ fn clipped(line: String) -> String {
         Some(front) => format!("{front}... ({} characters in all)", line.len()),
         None => line,
     }
-}
-
-fn told(outcome: &Outcome) -> String {
-    let a = outcome.answer;
-    let altered = outcome
-        .altered
-        .map_or(String::new(), |what| format!(", altered {what}"));
-    let rest = match (a.second, a.third) {
-        (0, 0) => String::new(),
-        (second, third) => format!(", second {second}, third {third}"),
-    };
-    format!(
-        "refusal {} kind {} value {}{rest}, output {}{altered}",
-        a.refusal,
-        a.kind,
-        a.value,
-        clipped(notation::phone_list(&outcome.output)),
-    )
 }
 
 /// A call of the interface, whatever its inputs are.
@@ -152,6 +166,7 @@ impl<C: Call> Compared for Runner<C> {
 /// Compares until the limit; a difference ends it.
 pub fn run(calls: &mut [Box<dyn Compared>], limit: Limit) -> Result<(), String> {
     let started = Instant::now();
+    let all_shares: usize = calls.iter().map(|call| call.share()).sum();
     for call in calls.iter_mut() {
         call.short()?;
     }
@@ -170,7 +185,7 @@ pub fn run(calls: &mut [Box<dyn Compared>], limit: Limit) -> Result<(), String> 
         let mut shares = 0;
         for call in calls.iter_mut() {
             shares += call.share();
-            let part = round * shares / 100 - dealt;
+            let part = round * shares / all_shares - dealt;
             call.random(part)?;
             dealt += part;
         }
@@ -178,7 +193,8 @@ pub fn run(calls: &mut [Box<dyn Compared>], limit: Limit) -> Result<(), String> 
     let seconds = started.elapsed().as_secs_f64();
     let asked: usize = calls.iter().map(|call| call.tally().asked()).sum();
     println!(
-        "{} calls, {} of them beside the Rust, the others refused as 01 says: no difference",
+        "{} calls, {} of them beside the Rust, the others refused or answered as 01 says: \
+        no difference",
         grouped(total(calls)),
         grouped(asked),
     );

@@ -1,5 +1,8 @@
 //! How many calls were compared, by answer and by what they met.
 
+/// The width of the rows' names.
+const WIDTH: usize = 54;
+
 /// The counts of one call's rows.
 pub struct Tally {
     name: &'static str,
@@ -10,15 +13,15 @@ pub struct Tally {
 }
 
 struct Rows {
-    names: &'static [&'static str],
+    names: Vec<&'static str>,
     counts: Vec<usize>,
 }
 
 impl Rows {
-    fn new(names: &'static [&'static str]) -> Rows {
+    fn new(names: Vec<&'static str>) -> Rows {
         Rows {
-            names,
             counts: vec![0; names.len()],
+            names,
         }
     }
 
@@ -29,7 +32,8 @@ impl Rows {
 
     fn print(&self, indent: &str) {
         for (name, count) in self.names.iter().zip(&self.counts) {
-            println!("{:<46}{:>12}", format!("{indent}{name}"), grouped(*count));
+            let name = format!("{indent}{name}");
+            println!("{name:<WIDTH$}{:>12}", grouped(*count));
         }
     }
 
@@ -41,15 +45,11 @@ impl Rows {
 }
 
 impl Tally {
-    pub fn new(
-        name: &'static str,
-        answers: &'static [&'static str],
-        met: &'static [&'static str],
-    ) -> Tally {
+    pub fn new(name: &'static str, answers: &[&'static str], met: &[&[&'static str]]) -> Tally {
         Tally {
             name,
-            answers: Rows::new(answers),
-            met: Rows::new(met),
+            answers: Rows::new(answers.to_vec()),
+            met: Rows::new(met.concat()),
             asked: 0,
         }
     }
@@ -71,12 +71,12 @@ impl Tally {
     }
 
     pub fn print(&self) {
-        println!(
-            "{:<46}{:>12}   {} beside the Rust",
-            self.name,
-            grouped(self.calls()),
-            grouped(self.asked)
-        );
+        let by = match self.asked {
+            0 => "by 01".into(),
+            asked => format!("{} beside the Rust", grouped(asked)),
+        };
+        let calls = grouped(self.calls());
+        println!("{:<WIDTH$}{calls:>12}   {by}", self.name);
         self.answers.print("  ");
         if !self.met.names.is_empty() {
             println!("  of these, or in these, met:");

@@ -60,6 +60,65 @@ pub fn random(random: &mut Random, alphabet: &[u8]) -> Vec<u8> {
     word
 }
 
+/// A tag; one in forty is refused.
+pub fn tag(random: &mut Random) -> Vec<u8> {
+    match random.weighted(&[20, 12, 40, 12, 4, 1, 1, 1]) {
+        0 => vec![],
+        1 => b"nil".to_vec(),
+        2 => vec![random.pick_byte(b"nnvvj0pNs")],
+        3 => random
+            .pick(&["nn", "noun", "vb", "v2", "NIL", "nill", "ni", "0n", "00"])
+            .into(),
+        4 => vec![random.byte() & 127],
+        5 => vec![b'n'; LONGEST],
+        6 => vec![b'v'; random.between(LONGEST + 1, 60)],
+        _ => vec![b'n', 128 + random.below(128) as u8],
+    }
+}
+
+/// Tags that the rules tell apart, and tags at 01's limits.
+pub fn tags() -> Vec<Vec<u8>> {
+    let mut tags: Vec<Vec<u8>> = [
+        "", "nil", "n", "v", "0", "N", "NIL", "nill", "nn", "0n", "\0",
+    ]
+    .iter()
+    .map(|tag| tag.as_bytes().to_vec())
+    .collect();
+    tags.extend([46, 47, 48, 256].map(|len| vec![b'n'; len]));
+    tags.extend([127, 128, 255].map(|b| vec![b]));
+    tags.push(vec![b'n', 128]);
+    tags
+}
+
+/// A word with some of its letters in the other case.
+pub fn recased(random: &mut Random, word: &[u8]) -> Vec<u8> {
+    if random.once_in(2) {
+        return word.to_vec();
+    }
+    let recase = |b: &u8| match random.once_in(3) {
+        true => b ^ (u8::from(b.is_ascii_alphabetic()) << 5),
+        false => *b,
+    };
+    word.iter().map(recase).collect()
+}
+
+/// A word near one of some others, or one of them; one in forty is refused.
+pub fn near(random: &mut Random, words: &[Vec<u8>]) -> Vec<u8> {
+    let word = &words[random.below(words.len())];
+    let mut word = recased(random, word);
+    let at = random.below(word.len() + 1);
+    let letter = random.pick_byte(b"aabzAMN'_0~");
+    match random.below(80) {
+        0 => word.resize(random.between(LONGEST + 1, 70), letter),
+        1 => word.insert(at, 128 + random.below(128) as u8),
+        2..=7 => word.insert(at, letter),
+        8..=13 => word.truncate(at),
+        14..=19 if at < word.len() => word[at] = letter,
+        _ => {}
+    }
+    word
+}
+
 /// Every word up to a length over an alphabet.
 pub fn every(alphabet: &[u8], longest: usize) -> Vec<Vec<u8>> {
     let mut words = vec![vec![]];

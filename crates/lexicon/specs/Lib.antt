@@ -1,2 +1,3 @@
 pub mod Adding
 pub mod Lookup
+pub mod Accepted

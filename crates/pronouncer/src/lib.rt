@@ -8,7 +8,36 @@ ghost use Rattle.phoneset.specs.Stress.{digits, bare, stress};
 ghost use Rattle.syllabify.specs.Call.{syllabify, syllabified};
 ghost use Rattle.lts.specs.Call.{predict, predicted};
 ghost use Rattle.language.specs.Call.{isSayable};
+ghost use Rattle.store.specs.Store.{newStore, newBytes};
+ghost use Rattle.compiled.specs.Call.{checkLexicon};
+ghost use Rattle.lexicon.specs.Lookup.{lookup, lookedUp};
+ghost use Rattle.lexicon.specs.Adding.{addEntry, storeAfter};
 use answers::Answer;
+
+// lex.phones, lex.index, lex.data
+#[no_mangle]
+pub extern "C" fn pronouncer_check_lexicon(phones: &[u8], index: &[u8], dat: &[u8]) -> Answer
+    ensures { λ r. ⌜ r ≡ checkLexicon (now (phones .entry)) (now (index .entry)) (now (dat .entry)) ⌝ }
+{
+    answers::told_verdict(compiled::check_lexicon(phones, index, dat))
+}
+
+// lex.phones, lex.index, lex.data, a store, a word, a tag, an output
+#[no_mangle]
+pub extern "C" fn pronouncer_lookup(
+    phones: &[u8],
+    index: &[u8],
+    dat: &[u8],
+    store: &[u8],
+    word: &[u8],
+    tag: &[u8],
+    out: &mut [u8],
+) -> Answer
+    ensures { λ r. ⌜ r ≡ lookup (now (phones .entry)) (now (index .entry)) (now (dat .entry)) (now (store .entry)) (now (word .entry)) (now (tag .entry)) (now (out .entry)) ⌝ }
+    ensures { λ _. ⌜ now (out .exit) ≡ lookedUp (now (phones .entry)) (now (index .entry)) (now (dat .entry)) (now (store .entry)) (now (word .entry)) (now (tag .entry)) (now (out .entry)) ⌝ }
+{
+    answers::told_looked(lexicon::lookup(phones, index, dat, store, word, tag, out))
+}
 
 // lts.phones, lts.index, lts.model, a word, an output
 #[no_mangle]
@@ -40,6 +69,30 @@ pub extern "C" fn pronouncer_is_sayable(prefix: &[u8], suffix: &[u8], word: &[u8
     ensures { λ r. ⌜ r ≡ isSayable (now (prefix .entry)) (now (suffix .entry)) (now (word .entry)) ⌝ }
 {
     answers::told_verdict(language::is_sayable(prefix, suffix, word))
+}
+
+// a store
+#[no_mangle]
+pub extern "C" fn pronouncer_new_store(store: &mut [u8]) -> Answer
+    ensures { λ r. ⌜ r ≡ newStore (now (store .entry)) ⌝ }
+    ensures { λ _. ⌜ now (store .exit) ≡ newBytes (now (store .entry)) ⌝ }
+{
+    answers::told_done(store::new_store(store))
+}
+
+// lex.phones, a store, a word, a tag, a phone list
+#[no_mangle]
+pub extern "C" fn pronouncer_add_entry(
+    table: &[u8],
+    store: &mut [u8],
+    word: &[u8],
+    tag: &[u8],
+    phones: &[u8],
+) -> Answer
+    ensures { λ r. ⌜ r ≡ addEntry (now (table .entry)) (now (store .entry)) (now (word .entry)) (now (tag .entry)) (now (phones .entry)) ⌝ }
+    ensures { λ _. ⌜ now (store .exit) ≡ storeAfter (now (table .entry)) (now (store .entry)) (now (word .entry)) (now (tag .entry)) (now (phones .entry)) ⌝ }
+{
+    answers::told_done(lexicon::add_entry(table, store, word, tag, phones))
 }
 
 // Whether a phone's text is a vowel: `kind` 1 or 0. Not one of the eleven calls.

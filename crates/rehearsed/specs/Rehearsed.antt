@@ -1,27 +1,40 @@
 -- 01, Rehearsed words: the cases marked *, as the rows of one theorem about the definitions that the calls' contracts cite.
 -- Assumes nothing.
-use Prim.Native.Nat.{ℕ, _-_, zero-le}
+use Prim.Native.Nat.{ℕ, _-_, _*_, _/_, _≤_, _<_, zero-le}
+use native.Mathlib.Omega.{arith}
 use Prim.Native.String.{String}
-use mathlib.Core.Path.{_≡_, refl}
+use mathlib.Core.Path.{_≡_, refl, ap, _∙_}
 use mathlib.Core.Bool.{Bool, true, false}
-use mathlib.Core.List.{List, [], _∷_, map}
+use mathlib.Core.List.{List, [], _∷_, _++_, map}
 use lib.Dec.{eqb}
-use lib.ListN.{length}
+use lib.ListN.{length, drop}
 use Rattle.texts.specs.Choice.{if_then_else_}
 use mathlib.Core.Option.{some}
 use borrow.Author.Tests.{le-ltb}
-use Rattle.texts.specs.Lists.{every, some as any, place}
-use Rattle.texts.specs.Text.{bytes, folded, isWord, ascii, low, same, is}
-use Rattle.answers.specs.Told.{accepted}
+use Rattle.texts.specs.Lists.{every, some as any, place, first}
+use Rattle.texts.specs.Text.{bytes, folded, isWord, ascii, low, same, is, agree}
+use Rattle.answers.specs.Told.{accepted, sourceNumber}
 use Rattle.records.specs.Records.{records, firstRecords}
 use Rattle.cells.specs.Cells.{cellsOf, cell, text, phonesOf, asciiPhones, shortPhones, shortCell}
-use Rattle.phoneset.specs.Phones.{phones, rowOf, isVowel}
+use Rattle.phoneset.specs.Phones.{phones, rowOf, isKnown, isVowel}
 use Rattle.phoneset.specs.Stress.{digits, lastByte, isStressed, stress, bare}
 use Rattle.onsets.specs.Onsets.{onsets, isOnset}
 use Rattle.syllabify.specs.Syllables.{marks as marksOf, cut, joined}
 use Rattle.syllabify.specs.Call.{syllabify, syllabified}
 use Rattle.lts.specs.Letters.{isTrees, letters, upTo, padded}
 use Rattle.lts.specs.Call.{predict, predicted}
+use Rattle.addenda.specs.Addenda.{addenda}
+use Rattle.addenda.specs.Find.{isMeant}
+use Rattle.slots.specs.Slot.{Entry}
+use Rattle.store.specs.Store.{slots, entries, isStoreLength, isWanted, sameKey, newStore, newBytes}
+use Rattle.store.specs.Adding.{adding, without, entryFor}
+use Rattle.store.specs.Fresh.{fresh, length-fresh, fresh-sound, fresh-entries}
+use Rattle.compiled.specs.Call.{isLexicon, lexicon-table}
+use Rattle.lexicon.specs.Adding.{newEntry, addedTag}
+use Rattle.lexicon.specs.Lookup.{found, find, wantedTag, lookup, lookedUp}
+use Rattle.answers.specs.declared.Source.{Source}
+use Rattle.answers.specs.declared.Source.the-variants.{Runtime, Addenda}
+use Rattle.rehearsed.specs.Grown.{Add, grown, AllAccepted, book, isOwn, isPlain, grow, answered}
 
 -- a rehearsed case
 pub data Case : Type 0 where
@@ -31,6 +44,8 @@ pub data Case : Type 0 where
   stressed : String → String → String → Case
   -- a word for which predict gives no phones, whatever the trees
   unspoken : String → Case
+  -- entries added to a new store, and what a word without a tag then gives, whatever the lexicon: its source and its phones
+  looked : List Add → String → Source → List String → Case
 
 -- digits as bytes 0 and 1
 abbrev bits : List ℕ → List ℕ
@@ -52,10 +67,20 @@ Holds (stressed p b s) = (bare digits (bytes p) ≡ bytes b) × (stress digits (
 Holds (unspoken w) =
     (lts-phones lts-index lts-model out : List ℕ) → isTrees lts-phones lts-index lts-model ≡ true
     → (predict lts-phones lts-index lts-model (bytes w) out ≡ accepted 0 0) × (predicted lts-phones lts-index lts-model (bytes w) out ≡ out)
+Holds (looked adds w s ps) =
+    (lex-phones lex-index lex-data bytes-lent out : List ℕ) → isLexicon lex-phones lex-index ≡ true → isStoreLength (length bytes-lent) ≡ true
+    → length adds < slots bytes-lent → 16 * length (map bytes ps) ≤ length out
+    → AllAccepted lex-phones (newBytes bytes-lent) adds
+    × (lookup lex-phones lex-index lex-data (grown lex-phones (newBytes bytes-lent) adds) (bytes w) [] out ≡ accepted (sourceNumber s) (length (map bytes ps)))
+    × (lookedUp lex-phones lex-index lex-data (grown lex-phones (newBytes bytes-lent) adds) (bytes w) [] out ≡ cellsOf (map bytes ps) ++ drop (16 * length (map bytes ps)) out)
 
 abbrev pub Each : List Case → Type 0
 Each [] = Unit
 Each (c ∷ cs) = Holds c × Each cs
+
+-- an entry to be added: a word, a tag, its phones
+abbrev entry : String → String → List String → Add
+entry w t ps = record { word = bytes w; tag = bytes t; phones = cellsOf (map bytes ps) }
 
 unfoldable pub cases : List Case
 cases =
@@ -71,6 +96,11 @@ cases =
     stressed "ae2" "ae2" "" ∷
     unspoken "" ∷
     unspoken "a#" ∷
+    looked [] "in" Addenda ("ih" ∷ "n" ∷ []) ∷
+    looked [] "," Addenda [] ∷
+    looked (entry "lead" "v" ("l" ∷ "iy" ∷ "d" ∷ []) ∷ entry "lead" "n" ("l" ∷ "eh" ∷ "d" ∷ []) ∷ []) "lead" Runtime ("l" ∷ "iy" ∷ "d" ∷ []) ∷
+    looked (entry "lead" "v" ("l" ∷ "iy" ∷ "d" ∷ []) ∷ entry "lead" "n" ("l" ∷ "eh" ∷ "d" ∷ []) ∷ entry "lead" "v" ("l" ∷ "iy" ∷ "d" ∷ []) ∷ [])
+    "lead" Runtime ("l" ∷ "eh" ∷ "d" ∷ []) ∷
     []
 
 -- a word without letters behind its last "#" needs no tree
@@ -82,8 +112,28 @@ nothing lts-phones lts-index lts-model out word w e t =
     let n = le-ltb (length out) 0 zero-le in
     (rw (t, w, e, n), rw (t, w, e, n))
 
+-- plain entries in a new store, and a word that its book finds
+plain : (adds : List Add) (word : List ℕ) (s : Source) (ps : List (List ℕ)) → every isPlain adds ≡ true → isWord word ≡ true
+    → ((lex-phones lex-index lex-data : List ℕ) → find (book [] adds) lex-phones lex-index lex-data word 48 ≡ found s ps) → length ps ≤ 96
+    → (lex-phones lex-index lex-data bytes-lent out : List ℕ) → isLexicon lex-phones lex-index ≡ true → isStoreLength (length bytes-lent) ≡ true
+    → length adds < slots bytes-lent → 16 * length ps ≤ length out
+    → AllAccepted lex-phones (newBytes bytes-lent) adds
+    × (lookup lex-phones lex-index lex-data (grown lex-phones (newBytes bytes-lent) adds) word [] out ≡ accepted (sourceNumber s) (length ps))
+    × (lookedUp lex-phones lex-index lex-data (grown lex-phones (newBytes bytes-lent) adds) word [] out ≡ cellsOf ps ++ drop (16 * length ps) out)
+unfolding newBytes newStore wantedTag isWord ascii every
+plain adds word s ps p w f few lex-phones lex-index lex-data b out l n room fits =
+    let h = fresh-sound b n in
+    let e = fresh-entries b n in
+    let k : slots (fresh b n) ≡ slots b = ap (λ (m : ℕ). m / 512) (length-fresh b n) in
+    let z : length (entries (fresh b n)) ≡ 0 = ap (λ (es : List Entry). length es) e in
+    let g = grow lex-phones (fresh b n) adds (lexicon-table lex-phones lex-index l) h p (omega arith) in
+    let t : find (entries (grown lex-phones (fresh b n) adds)) lex-phones lex-index lex-data word 48 ≡ found s ps =
+    ap (λ (es : List Entry). find es lex-phones lex-index lex-data word 48) (g .holds ∙ ap (λ (es : List Entry). book es adds) e) ∙ f lex-phones lex-index lex-data in
+    let a = answered lex-phones lex-index lex-data (grown lex-phones (fresh b n) adds) word [] out s ps l (g .sound) (rw w) t few fits in
+    rw n (g .taken, a .0, a .1)
+
 pub rehearsed : Each cases
-unfolding cases syllabify syllabified phonesOf cellsOf cell text records firstRecords asciiPhones shortPhones shortCell ascii low every any same is place phones rowOf isVowel onsets isOnset marksOf cut joined lastByte isStressed stress bare isWord folded letters upTo padded
+unfolding cases syllabify syllabified phonesOf cellsOf cell text records firstRecords asciiPhones shortPhones shortCell ascii low every any same is place phones rowOf isVowel onsets isOnset marksOf cut joined lastByte isStressed stress bare isWord folded letters upTo padded isPlain isOwn isKnown book find first isWanted isMeant addenda agree newEntry entryFor addedTag adding without sameKey
 rehearsed = (
   (refl, refl),
   (
@@ -104,7 +154,22 @@ rehearsed = (
                   (refl, refl),
                   (
                     (refl, refl),
-                    ((λ p i m out t. nothing p i m out [] refl refl t), ((λ p i m out t. nothing p i m out (bytes "a#") refl refl t), tt)),
+                    (
+                      (λ p i m out t. nothing p i m out [] refl refl t),
+                      (
+                        (λ p i m out t. nothing p i m out (bytes "a#") refl refl t),
+                        (
+                          plain [] (bytes "in") Addenda (map bytes ("ih" ∷ "n" ∷ [])) refl refl (λ p i d. refl) (omega arith),
+                          (
+                            plain [] (bytes ",") Addenda [] refl refl (λ p i d. refl) (omega arith),
+                            (
+                              plain (entry "lead" "v" ("l" ∷ "iy" ∷ "d" ∷ []) ∷ entry "lead" "n" ("l" ∷ "eh" ∷ "d" ∷ []) ∷ []) (bytes "lead") Runtime (map bytes ("l" ∷ "iy" ∷ "d" ∷ [])) refl refl (λ p i d. refl) (omega arith),
+                              (plain (entry "lead" "v" ("l" ∷ "iy" ∷ "d" ∷ []) ∷ entry "lead" "n" ("l" ∷ "eh" ∷ "d" ∷ []) ∷ entry "lead" "v" ("l" ∷ "iy" ∷ "d" ∷ []) ∷ []) (bytes "lead") Runtime (map bytes ("l" ∷ "eh" ∷ "d" ∷ [])) refl refl (λ p i d. refl) (omega arith), tt),
+                            ),
+                          ),
+                        ),
+                      ),
+                    ),
                   ),
                 ),
               ),

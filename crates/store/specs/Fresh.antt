@@ -33,7 +33,7 @@ module _ (b : List ℕ) (size : isStoreLength (length b) ≡ true) where
   unfolding newHead
   head = putRecord-same 512 b 0 newHead fits refl
 
-  length-fresh : length fresh ≡ length b
+  pub length-fresh : length fresh ≡ length b
   unfolding newHead
   length-fresh = length-putRecord 512 b 0 newHead fits refl
 

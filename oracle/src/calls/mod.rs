@@ -1,7 +1,12 @@
 //! The calls that are compared, one module each.
 
+pub mod add_entries;
+pub mod add_entry;
+pub mod check_lexicon;
 pub mod is_sayable;
 pub mod is_vowel;
+pub mod lookup;
+pub mod new_store;
 pub mod predict;
 pub mod split_stress;
 pub mod syllabify;

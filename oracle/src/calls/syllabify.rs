@@ -1,7 +1,7 @@
 //! syllabify: the marks after the phones of a list.
 
 use crate::call::{ask, Call, Expected, Outcome};
-use crate::cells::{cell, text, CELL};
+use crate::cells::{cell, spoil_padding, text, CELL};
 use crate::lent::{altered, Lent, Room, Size};
 use crate::notation;
 use crate::ours::{self, Answer};
@@ -351,13 +351,6 @@ fn edges() -> Vec<Input> {
         }
     }
     inputs
-}
-
-/// Fills what stands past a text, which nobody reads.
-fn spoil_padding(random: &mut Random, cell: &mut [u8; CELL]) {
-    for at in 1 + text(cell).len()..CELL {
-        cell[at] = random.byte();
-    }
 }
 
 fn bytes(input: &Input) -> Vec<u8> {

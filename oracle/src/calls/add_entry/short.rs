@@ -1,0 +1,175 @@
+//! The short inputs of add_entry.
+
+use super::Input;
+use crate::cells::cell;
+use crate::lexicon_edges;
+use crate::lexicons::Lexicon;
+use crate::phones::Phones;
+use crate::scene::Scene;
+use crate::store_edges;
+use crate::stores;
+use crate::words;
+use std::rc::Rc;
+
+pub fn inputs(phones: &Phones) -> Vec<Input> {
+    let mut inputs = edges();
+    inputs.extend(small_stores());
+    inputs.extend(single_phones(phones));
+    inputs.extend(altered_bytes());
+    inputs
+}
+
+pub fn input(scene: &Rc<Scene>, word: &[u8], tag: &[u8], phones: &[&[u8]]) -> Input {
+    Input {
+        scene: scene.clone(),
+        word: word.to_vec(),
+        tag: tag.to_vec(),
+        cells: phones.iter().map(|phone| cell(phone)).collect(),
+        rest: vec![],
+    }
+}
+
+/// Every add over two words and some tags, on every store that up to three adds leave, with room and
+/// without.
+fn small_stores() -> Vec<Input> {
+    let lexicon = Rc::new(Lexicon::of(&["k", "zz"], &[]));
+    let mut inputs = vec![];
+    for store in store_edges::small(3) {
+        let used = stores::unused(&store);
+        // the store as it is, and without its unused slots
+        for store in [store.clone(), store[..used].to_vec()] {
+            let scene = Rc::new(Scene::new(&lexicon, store));
+            for word in ["a", "A", "b", "c"] {
+                for tag in ["", "n", "v", "nil", "0"] {
+                    let phones: &[&[u8]] = &[b"zz"];
+                    inputs.push(input(&scene, word.as_bytes(), tag.as_bytes(), phones));
+                }
+            }
+        }
+    }
+    inputs
+}
+
+/// Phones one by one: every short one, beside a table that has some of them and beside one that has none.
+fn single_phones(phones: &Phones) -> Vec<Input> {
+    let names = ["", "zz", "ae1", "t", "abcdefghijklmno", "\x7f"];
+    let tables = [Lexicon::of(&names, &[]), Lexicon::of::<&str>(&[], &[])];
+    let mut inputs = vec![];
+    for table in tables {
+        let scene = Rc::new(Scene::new(&Rc::new(table), stores::new(2, 0x11)));
+        // of the strings of two bytes, those of letters
+        let two = |phone: &Vec<u8>| phone.len() == 2 && !phone.iter().all(u8::is_ascii_lowercase);
+        for phone in phones.short().iter().filter(|phone| !two(phone)) {
+            inputs.push(input(&scene, b"a", b"n", &[phone]));
+        }
+        // every length byte, over a known text, over zeros and over a high byte
+        for len in 0..=255 {
+            for (text, last) in [
+                (&b"t"[..], 0),
+                (b"abcdefghijklmno", b'o'),
+                (b"", 0),
+                (b"t", 200),
+            ] {
+                let mut given = cell(text);
+                given[0] = len;
+                given[15] = last;
+                inputs.push(Input {
+                    cells: vec![given],
+                    ..input(&scene, b"a", b"n", &[])
+                });
+            }
+        }
+    }
+    inputs
+}
+
+/// A store with each of its bytes altered, and a phone table with each of its bytes altered.
+fn altered_bytes() -> Vec<Input> {
+    let lexicon = Rc::new(Lexicon::of(&["k"], &[]));
+    let mut inputs = vec![];
+    for (i, store) in store_edges::altered_bytes().into_iter().enumerate() {
+        let scene = Rc::new(Scene::new(&lexicon, store));
+        let (word, tag) = [("Lead", "v"), ("b", ""), ("a", "n")][i % 3];
+        inputs.push(input(
+            &scene,
+            word.as_bytes(),
+            tag.as_bytes(),
+            &[b"k", b"ae"],
+        ));
+    }
+    for lexicon in lexicon_edges::altered_bytes() {
+        let table = Lexicon::of_table(lexicon.sections.phones.clone());
+        let scene = Rc::new(Scene::new(&table, store_edges::good()));
+        inputs.push(input(&scene, b"a", b"n", &[b"zz", b"k"]));
+    }
+    inputs
+}
+
+/// Tables, stores, words, tags and lists at 01's limits, and just past them.
+fn edges() -> Vec<Input> {
+    let mut inputs = vec![];
+    for lexicon in lexicon_edges::limits() {
+        let table = Lexicon::of_table(lexicon.sections.phones.clone());
+        for store in [store_edges::good(), stores::new(1, 0), vec![1; 512]] {
+            let scene = Rc::new(Scene::new(&table, store));
+            let lists: [&[&[u8]]; 5] = [&[], &[b"k"], &[b"p"], &[b""], &[b"ppppppppppppppp"]];
+            for phones in lists {
+                inputs.push(input(&scene, b"lead", b"v", phones));
+                inputs.push(input(&scene, b"new", b"", phones));
+            }
+            inputs.push(input(&scene, &[b'a'; 48], b"", &[b"q"]));
+        }
+    }
+    let plain = Rc::new(Lexicon::of(&["", "q"], &[]));
+    // the last entry again
+    let scene = Rc::new(Scene::new(&plain, store_edges::good()));
+    inputs.push(input(&scene, b"LEAD", b"vb", &[b"l", b"iy"]));
+    for store in store_edges::limits() {
+        let scene = Rc::new(Scene::new(&plain, store));
+        for word in words::edges() {
+            inputs.push(input(&scene, &word, b"", &[b"k"]));
+        }
+        for tag in words::tags() {
+            for word in ["lead", "a", "A", "w0", "w126"] {
+                inputs.push(input(&scene, word.as_bytes(), &tag, &[b"k", b"q", b""]));
+            }
+        }
+        inputs.extend(lists(&scene));
+    }
+    inputs
+}
+
+/// Lists at 01's limits: 3 and 5 look at every cell, also past the 24th and the 96th.
+fn lists(scene: &Rc<Scene>) -> Vec<Input> {
+    let mut inputs = vec![];
+    for count in [0, 1, 23, 24, 25, 26, 96, 97] {
+        for word in ["lead", "new"] {
+            let known = input(scene, word.as_bytes(), b"v", &vec![&b"t"[..]; count]);
+            for rest in [0, 1, 15] {
+                inputs.push(Input {
+                    rest: vec![255; rest],
+                    ..known.clone()
+                });
+            }
+            for at in [0, 23, 24, 95, 96].into_iter().filter(|at| *at < count) {
+                let mut high = cell(b"t");
+                high[1] = 200;
+                let mut long = cell(b"t");
+                long[0] = 16;
+                let mut past = cell(b"t");
+                past[2] = 200;
+                let mut both = long;
+                both[15] = 128;
+                for other in [cell(b"zz"), cell(b""), cell(b"q"), high, long, past, both] {
+                    let mut cells = known.cells.clone();
+                    cells[at] = other;
+                    inputs.push(Input {
+                        cells,
+                        ..known.clone()
+                    });
+                }
+            }
+        }
+    }
+    inputs
+}

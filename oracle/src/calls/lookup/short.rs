@@ -1,0 +1,223 @@
+//! The short inputs of lookup, and those that are always recorded.
+
+use super::Input;
+use crate::lent::{Room, Size};
+use crate::lexicon_edges::{self, row};
+use crate::lexicon_shapes;
+use crate::lexicons::{Lexicon, Row};
+use crate::scene::{Add, Scene};
+use crate::store_edges;
+use crate::stores;
+use crate::words;
+use std::rc::Rc;
+
+pub fn inputs() -> Vec<Input> {
+    let mut inputs = edges();
+    inputs.extend(addenda_with_all_tags());
+    inputs.extend(small_lexicons());
+    inputs.extend(large_lexicons());
+    inputs.extend(small_stores());
+    inputs.extend(altered_bytes());
+    inputs
+}
+
+/// The addenda with some tags, and the words at 01's limits, beside a small lexicon and a small store.
+pub fn fixed() -> Vec<Input> {
+    let lexicon = Rc::new(Lexicon::new(lexicon_edges::good()));
+    let scene = Rc::new(Scene::new(&lexicon, store_edges::good()));
+    let mut inputs = vec![];
+    for (word, tag) in lexicon_shapes::addenda()
+        .iter()
+        .zip(["", "n", "p", "0", "v"].iter().cycle())
+    {
+        inputs.push(input(&scene, word.as_bytes(), tag.as_bytes(), Size::Exact));
+    }
+    let accepted = |word: &Vec<u8>| !words::is_refused(word);
+    for word in words::edges().into_iter().filter(accepted) {
+        inputs.push(input(&scene, &word, b"", Size::Exact));
+    }
+    for tag in words::tags().into_iter().filter(accepted) {
+        inputs.push(input(&scene, b"Lead", &tag, Size::Exact));
+        inputs.push(input(&scene, b"b", &tag, Size::Exact));
+    }
+    for input in &mut inputs {
+        input.room.step = 0;
+    }
+    inputs
+}
+
+fn input(scene: &Rc<Scene>, word: &[u8], tag: &[u8], size: Size) -> Input {
+    Input {
+        scene: scene.clone(),
+        word: word.to_vec(),
+        tag: tag.to_vec(),
+        room: Room {
+            size,
+            fill: 0x30,
+            step: 7,
+        },
+    }
+}
+
+/// Each of the addenda with every tag of one byte and some others: without other entries, beside compiled
+/// entries of the same words, and beside runtime ones.
+fn addenda_with_all_tags() -> Vec<Input> {
+    let mut words: Vec<&str> = lexicon_shapes::addenda();
+    words.sort();
+    let rows: Vec<Row> = words.iter().map(|word| row(word, b'q', &[0])).collect();
+    let empty = Rc::new(Lexicon::of::<&str>(&[], &[]));
+    let compiled = Rc::new(Lexicon::of(&["qq"], &rows));
+    let adds: Vec<Add> = words
+        .iter()
+        .zip(["n", "p", "nil"].iter().cycle())
+        .map(|(word, tag)| store_edges::add(word, tag, "k ae t"))
+        .collect();
+    let alone = Rc::new(Scene::new(&empty, stores::new(1, 0)));
+    let beside = alone.with_store(stores::new(60, 0).clone());
+    let beside = beside.with_store(beside.grown(&adds));
+    let scenes = [
+        alone,
+        Rc::new(Scene::new(&compiled, stores::new(2, 0xee))),
+        beside,
+    ];
+    let mut tags: Vec<Vec<u8>> = (0..128).map(|tag| vec![tag]).collect();
+    tags.extend(words::tags());
+    let mut inputs = vec![];
+    for scene in &scenes {
+        for word in &words {
+            for tag in &tags {
+                inputs.push(input(scene, word.as_bytes(), tag, Size::Exact));
+            }
+            for other in [word.to_uppercase(), format!("{word} "), word[1..].into()] {
+                inputs.push(input(scene, other.as_bytes(), b"n", Size::More(1)));
+                inputs.push(input(scene, other.as_bytes(), b"", Size::More(2)));
+            }
+        }
+        for byte in 0..128 {
+            for tag in ["", "n", "p", "v", "0", "nil"] {
+                inputs.push(input(scene, &[byte], tag.as_bytes(), Size::More(3)));
+            }
+        }
+    }
+    inputs
+}
+
+/// Every small lexicon, sorted or not, with and without damage.
+fn small_lexicons() -> Vec<Input> {
+    let mut inputs = vec![];
+    for lexicon in lexicon_edges::small(4) {
+        let scene = Rc::new(Scene::new(&lexicon, stores::new(1, 0)));
+        let more = lexicon.count() < 4;
+        let words: &[&str] = if more {
+            &["a", "b", "", "ab", "A"]
+        } else {
+            &["a", "b"]
+        };
+        let tags: &[&str] = if more {
+            &["", "n", "q", "nil"]
+        } else {
+            &["", "n", "q"]
+        };
+        for word in words {
+            for tag in tags {
+                inputs.push(input(&scene, word.as_bytes(), tag.as_bytes(), Size::Exact));
+            }
+        }
+    }
+    inputs
+}
+
+/// Some words of large lexicons, their first and last ones among them, and words beside them.
+fn large_lexicons() -> Vec<Input> {
+    let mut inputs = vec![];
+    for lexicon in lexicon_edges::large() {
+        let scene = Rc::new(Scene::new(&lexicon, stores::new(2, 0x44)));
+        for i in (0..3_000).step_by(23).chain([1, 2, 2_998, 2_999, 3_000]) {
+            let word = format!("W{i:04}");
+            for (word, tag) in [
+                (&word[..], "v"),
+                (&word, ""),
+                (&word[..4], "n"),
+                (&word[1..], "n"),
+            ] {
+                inputs.push(input(&scene, word.as_bytes(), tag.as_bytes(), Size::Exact));
+            }
+        }
+    }
+    inputs
+}
+
+/// Every store that up to three adds over two words and three tags leave.
+fn small_stores() -> Vec<Input> {
+    let rows = [row("a", b'n', &[0]), row("b", b'v', &[1])];
+    let lexicon = Rc::new(Lexicon::of(&["p0", "p1"], &rows));
+    let mut inputs = vec![];
+    for store in store_edges::small(3) {
+        let scene = Rc::new(Scene::new(&lexicon, store));
+        for word in ["a", "A", "b"] {
+            for tag in ["", "n", "v", "q", "0", "nil"] {
+                inputs.push(input(&scene, word.as_bytes(), tag.as_bytes(), Size::Exact));
+            }
+        }
+    }
+    inputs
+}
+
+/// A store with each of its bytes altered, and a lexicon with each of its bytes altered.
+fn altered_bytes() -> Vec<Input> {
+    let lexicon = Rc::new(Lexicon::new(lexicon_edges::good()));
+    let mut inputs = vec![];
+    for (i, store) in store_edges::altered_bytes().into_iter().enumerate() {
+        let scene = Rc::new(Scene::new(&lexicon, store));
+        let word = ["lead", "a"][i % 2];
+        inputs.push(input(&scene, word.as_bytes(), b"", Size::Exact));
+    }
+    let store = store_edges::good();
+    for lexicon in lexicon_edges::altered_bytes() {
+        let scene = Rc::new(Scene::new(&lexicon, store.clone()));
+        for (word, tag) in [("a", "v"), ("b", "q"), ("ab", ""), ("c", "n"), ("lead", "")] {
+            inputs.push(input(&scene, word.as_bytes(), tag.as_bytes(), Size::Exact));
+        }
+    }
+    inputs
+}
+
+/// Sections, stores, words, tags and outputs at 01's limits, and just past them.
+fn edges() -> Vec<Input> {
+    let sizes = [Size::Exact, Size::More(1), Size::Short(1), Size::Short(16)];
+    let mut inputs = vec![];
+    for lexicon in lexicon_edges::limits() {
+        let scene = Rc::new(Scene::new(&lexicon, stores::new(1, 0)));
+        for word in ["a", "b", "ab", "", "in"] {
+            for tag in ["", "n", "q"] {
+                for size in sizes {
+                    inputs.push(input(&scene, word.as_bytes(), tag.as_bytes(), size));
+                }
+            }
+        }
+        for len in [46, 47, 48, 255] {
+            inputs.push(input(&scene, &vec![b'a'; len], b"n", Size::Exact));
+        }
+        for byte in [127, 128] {
+            inputs.push(input(&scene, &[byte], b"n", Size::Exact));
+        }
+        inputs.push(input(&scene, b"a", b"n", Size::Short(usize::MAX)));
+        // a lower refusal goes before a higher one
+        let unsound = scene.with_store(vec![1; 512]);
+        inputs.push(input(&unsound, b"a", b"", Size::Exact));
+        inputs.push(input(&unsound, &[b'a'; 48], b"", Size::Exact));
+    }
+    let lexicon = Rc::new(Lexicon::new(lexicon_edges::good()));
+    for store in store_edges::limits() {
+        let scene = Rc::new(Scene::new(&lexicon, store));
+        for word in words::edges() {
+            inputs.push(input(&scene, &word, b"", Size::Exact));
+        }
+        for tag in words::tags() {
+            inputs.push(input(&scene, b"a", &tag, Size::More(1)));
+            inputs.push(input(&scene, b"lead", &tag, Size::Exact));
+            inputs.push(input(&scene, b"Lead", &tag, Size::Short(1)));
+        }
+    }
+    inputs
+}

@@ -1,0 +1,407 @@
+//! Lexicons of many shapes, and ways to break them.
+
+use crate::lexicons::{entry_bytes, index, sections, Lexicon, Row, Sections};
+use crate::phones::Phones;
+use crate::random::Random;
+use crate::shrink::{parts, shorter, without};
+use crate::trees::phone_table;
+use crate::words;
+use original::lexicon::probe;
+use std::rc::Rc;
+
+/// A lexicon, and words to try on it: some of its own, some of the addenda, and others.
+pub struct Shape {
+    pub lexicon: Lexicon,
+    pub words: Vec<Vec<u8>>,
+}
+
+/// A whole lexicon, sorted or not.
+pub fn whole(random: &mut Random, phones: &Phones) -> Shape {
+    let most = match random.weighted(&[60, 30, 4, 1]) {
+        0 => 12,
+        1 => 100,
+        2 => 800,
+        _ => 3_000,
+    };
+    plan(random, phones, most)
+}
+
+/// A whole lexicon of a size that a list can hold.
+pub fn to_record(random: &mut Random, phones: &Phones) -> Shape {
+    loop {
+        let shape = plan(random, phones, 60);
+        let Sections { index, data, .. } = &shape.lexicon.sections;
+        if index.len() > 20 && data.len() < 2_000 {
+            return shape;
+        }
+    }
+}
+
+/// A lexicon that only names phones.
+pub fn of_phones(random: &mut Random, phones: &Phones) -> Lexicon {
+    Lexicon::of(&names(random, phones), &[])
+}
+
+fn plan(random: &mut Random, phones: &Phones, most: usize) -> Shape {
+    let names = names(random, phones);
+    let alphabet = words::alphabet(random);
+    let rows = rows(random, most, &alphabet, names.len());
+    let mut words: Vec<Vec<u8>> = vec![];
+    for _ in 0..30.min(rows.len()) {
+        words.push(rows[random.below(rows.len())].word.clone());
+    }
+    for _ in 0..4 {
+        words.push(random.pick(&addenda()).into());
+        words.push(words::accepted(random, &alphabet));
+    }
+    words.retain(|word| !words::is_refused(word));
+    let lexicon = Lexicon::new(laid_out(random, &names, &rows));
+    Shape { lexicon, words }
+}
+
+/// The words of the addenda.
+pub fn addenda() -> Vec<&'static str> {
+    probe::addenda().iter().map(|(_, word, _)| *word).collect()
+}
+
+/// The names of a phone table.
+fn names(random: &mut Random, phones: &Phones) -> Vec<Vec<u8>> {
+    let count = match random.weighted(&[1, 2, 12, 8, 2]) {
+        0 => 0,
+        1 => 1,
+        2 => random.between(2, 12),
+        3 => random.between(13, 80),
+        _ => 256,
+    };
+    (0..count).map(|_| phones.phone(random)).collect()
+}
+
+/// Entries, many of them homographs; three of four times their words do not fall.
+fn rows(random: &mut Random, most: usize, alphabet: &[u8], names: usize) -> Vec<Row> {
+    let count = match random.weighted(&[1, 1, 16]) {
+        0 => 0,
+        1 => 1,
+        _ => random.between(2, most),
+    };
+    let mut rows: Vec<Row> = vec![];
+    while rows.len() < count {
+        let word = word(random, alphabet, &rows);
+        for _ in 0..1 + random.weighted(&[6, 3, 2, 1]) {
+            rows.push(Row {
+                tag: tag(random),
+                word: word.clone(),
+                numbers: numbers(random, names),
+            });
+        }
+    }
+    match random.below(8) {
+        // homographs in any order of their tags
+        0 => rows.sort_by(|a, b| a.word.cmp(&b.word)),
+        // a few out of order
+        1 => {
+            rows.sort_by(|a, b| a.word.cmp(&b.word));
+            for _ in 0..random.between(1, 3) {
+                let (i, j) = (random.below(count + 1), random.below(count + 1));
+                if i.max(j) < rows.len() {
+                    rows.swap(i, j);
+                }
+            }
+        }
+        2 => shuffle(random, &mut rows),
+        _ => rows.sort_by(|a, b| (&a.word, a.tag).cmp(&(&b.word, b.tag))),
+    }
+    rows
+}
+
+/// A word: one of the addenda, one near an earlier word, or any; it may be longer than 01 lets be looked up.
+fn word(random: &mut Random, alphabet: &[u8], rows: &[Row]) -> Vec<u8> {
+    let len = match random.weighted(&[30, 12, 1, 1, 1, 3, 6]) {
+        0 => random.between(1, 4),
+        1 => random.between(1, 10),
+        2 => 0,
+        3 => words::LONGEST,
+        4 => random.between(words::LONGEST, 255),
+        5 => return random.pick(&addenda()).into(),
+        _ if rows.is_empty() => 1,
+        _ => {
+            let mut near = rows[random.below(rows.len())].word.clone();
+            near.truncate(254);
+            near.push(random.pick_byte(alphabet));
+            return near;
+        }
+    };
+    (0..len).map(|_| random.pick_byte(alphabet)).collect()
+}
+
+fn tag(random: &mut Random) -> u8 {
+    match random.weighted(&[12, 1, 1]) {
+        0 => random.pick_byte(b"nnvvj0pN"),
+        1 => random.byte() | 128,
+        _ => random.byte() & 127,
+    }
+}
+
+fn numbers(random: &mut Random, names: usize) -> Vec<u8> {
+    let count = match random.weighted(&[3, 60, 6, 1, 1, 1]) {
+        _ if names == 0 => 0,
+        0 => 0,
+        1 => random.between(1, 6),
+        2 => random.between(7, 24),
+        3 => random.between(90, 100),
+        4 => random.between(95, 98),
+        _ => 255,
+    };
+    // now and then the last number
+    let number = |_| match random.once_in(20) {
+        true => names.min(256) - 1,
+        false => random.below(names),
+    };
+    (0..count).map(number).map(|n| n as u8).collect()
+}
+
+/// Sections of these entries; one time in four they stand in another order than their offsets, and one
+/// time in four with other bytes between.
+fn laid_out(random: &mut Random, names: &[Vec<u8>], rows: &[Row]) -> Sections {
+    let mut order: Vec<usize> = (0..rows.len()).collect();
+    if random.once_in(4) {
+        shuffle(random, &mut order);
+    }
+    let gaps = random.once_in(4);
+    let mut data = vec![];
+    let mut offsets = vec![0; rows.len()];
+    for i in order {
+        if gaps && random.once_in(2) {
+            let gap = random.between(1, 9);
+            data.extend(random.bytes(gap));
+        }
+        offsets[i] = data.len();
+        data.extend(entry_bytes(&rows[i]));
+    }
+    let mut sections = Sections {
+        phones: phone_table(names),
+        index: index(&offsets),
+        data,
+    };
+    if random.once_in(4) {
+        let more = random.between(1, 9);
+        sections.phones.extend(random.bytes(more));
+        sections.index.extend(random.bytes(more));
+        sections.data.extend(random.bytes(more));
+    }
+    sections
+}
+
+fn shuffle<T>(random: &mut Random, list: &mut [T]) {
+    for i in (1..list.len()).rev() {
+        list.swap(i, random.between(0, i));
+    }
+}
+
+/// Breaks the form of a section, damages an entry, or alters any byte.
+pub fn broken(random: &mut Random, lexicon: &Lexicon) -> Lexicon {
+    let mut sections = lexicon.sections.clone();
+    break_one(random, &mut sections, lexicon);
+    if random.once_in(6) {
+        break_one(random, &mut sections, lexicon);
+    }
+    Lexicon::new(sections)
+}
+
+fn break_one(random: &mut Random, sections: &mut Sections, lexicon: &Lexicon) {
+    let names = lexicon.names.as_ref().map_or(0, Vec::len);
+    let entries = lexicon.count();
+    let entry = random.below(entries.max(1));
+    let offset = match &lexicon.offsets {
+        Some(offsets) if entries > 0 => offsets[entry],
+        _ => 0,
+    };
+    match random.below(14) {
+        0 => break_phones(random, &mut sections.phones, names),
+        1 => {
+            let len = random.below(sections.index.len() + 1);
+            sections.index.truncate(len);
+        }
+        2 => {
+            let more = [1, 2, random.between(1, 9), 1 << 30, u32::MAX as usize];
+            let count = (entries + more[random.below(5)]) as u32;
+            put(&mut sections.index, 0, &count.to_le_bytes());
+        }
+        3 | 4 => {
+            let len = random.below(sections.data.len() + 1);
+            sections.data.truncate(len);
+        }
+        5 => sections.data.clear(),
+        6 | 7 => {
+            let len = sections.data.len();
+            let outside = [
+                len,
+                len - 1.min(len),
+                len + random.below(9),
+                u32::MAX as usize,
+            ];
+            let outside = outside[random.below(4)] as u32;
+            put(&mut sections.index, 4 + 4 * entry, &outside.to_le_bytes());
+        }
+        8 => put(
+            &mut sections.data,
+            offset + 2,
+            &[128 + random.below(128) as u8],
+        ),
+        // a word or a list that is longer than it was
+        9 => put(&mut sections.data, offset + 1, &[random.byte()]),
+        10 => {
+            if let Ok(entry) = lexicon.entry(entry) {
+                put(
+                    &mut sections.data,
+                    offset + 2 + entry.word.len(),
+                    &[random.byte()],
+                );
+            }
+        }
+        11 => {
+            if let Ok(entry) = lexicon.entry(entry) {
+                let at = offset + 3 + entry.word.len();
+                let last = entry.numbers.len().saturating_sub(1);
+                put(
+                    &mut sections.data,
+                    at + random.between(0, last),
+                    &[names as u8],
+                );
+            }
+        }
+        _ => {
+            for _ in 0..random.between(1, 6) {
+                let byte = [random.byte()];
+                match random.below(4) {
+                    0 => put(&mut sections.phones, random.below(600), &byte),
+                    1 => put(&mut sections.index, random.below(4 * entries + 4), &byte),
+                    _ => {
+                        let len = sections.data.len();
+                        put(&mut sections.data, random.below(len + 1), &byte);
+                    }
+                }
+            }
+        }
+    }
+}
+
+/// A phone table that breaks its form, or nearly does.
+pub fn broken_table(random: &mut Random, lexicon: &Lexicon) -> Rc<Lexicon> {
+    let mut table = lexicon.sections.phones.clone();
+    let names = lexicon.names.as_ref().map_or(0, Vec::len);
+    break_phones(random, &mut table, names);
+    Lexicon::of_table(table)
+}
+
+fn break_phones(random: &mut Random, table: &mut Vec<u8>, names: usize) {
+    match random.below(4) {
+        0 => table.truncate(random.below(table.len() + 1)),
+        1 => {
+            let count = random.between(names + 1, 300) as u32;
+            put(table, 0, &count.to_le_bytes());
+        }
+        2 => put(table, 4, &[random.between(16, 255) as u8]),
+        _ => {
+            let at = random.below(table.len() + 1);
+            put(table, at, &[128 + random.below(128) as u8]);
+        }
+    }
+}
+
+/// Writes bytes into a section, where it is long enough.
+fn put(section: &mut [u8], at: usize, bytes: &[u8]) {
+    if let Some(place) = section.get_mut(at..at + bytes.len()) {
+        place.copy_from_slice(bytes);
+    }
+}
+
+/// Lexicons with something left out, for shrinking.
+pub fn smaller(lexicon: &Lexicon) -> Vec<Rc<Lexicon>> {
+    let given = &lexicon.sections;
+    let mut all = vec![];
+    match (&lexicon.names, &lexicon.offsets) {
+        (Some(names), Some(offsets)) => {
+            let names_left = shorter(names);
+            all.extend(names_left.iter().map(|names| Sections {
+                phones: phone_table(names),
+                ..given.clone()
+            }));
+            let rows: Result<Vec<Row>, _> = (0..lexicon.count())
+                .map(|i| lexicon.entry(i).map(Row::from))
+                .collect();
+            match rows {
+                Ok(rows) => all.extend(fewer_rows(given, names, &rows)),
+                Err(_) => all.extend(fewer_bytes(given, offsets)),
+            }
+        }
+        _ => {
+            let parts: [fn(&mut Sections) -> &mut Vec<u8>; 3] =
+                [|s| &mut s.data, |s| &mut s.index, |s| &mut s.phones];
+            for part in parts {
+                for bytes in shorter(part(&mut given.clone())) {
+                    let mut sections = given.clone();
+                    *part(&mut sections) = bytes;
+                    all.push(sections);
+                }
+            }
+        }
+    }
+    all.into_iter().map(Lexicon::new).map(Rc::new).collect()
+}
+
+/// Entries left out or made plainer, and written one behind the other.
+fn fewer_rows(given: &Sections, names: &[Vec<u8>], rows: &[Row]) -> Vec<Sections> {
+    let mut all = vec![];
+    let plain = sections(names, rows);
+    if plain.data != given.data || plain.index != given.index || plain.phones != given.phones {
+        all.push(plain);
+    }
+    for rows in shorter(rows) {
+        all.push(sections(names, &rows));
+    }
+    for i in 0..rows.len().min(16) {
+        let mut change = |row: Row| {
+            let mut rows = rows.to_vec();
+            rows[i] = row;
+            all.push(sections(names, &rows));
+        };
+        for numbers in shorter(&rows[i].numbers) {
+            change(Row {
+                numbers,
+                ..rows[i].clone()
+            });
+        }
+        for word in shorter(&rows[i].word) {
+            change(Row {
+                word,
+                ..rows[i].clone()
+            });
+        }
+    }
+    all
+}
+
+/// Offsets left out, or bytes, behind which the offsets move.
+fn fewer_bytes(given: &Sections, offsets: &[usize]) -> Vec<Sections> {
+    let mut all = vec![];
+    for offsets in shorter(offsets) {
+        all.push(Sections {
+            index: index(&offsets),
+            ..given.clone()
+        });
+    }
+    for part in parts(given.data.len()) {
+        let moved = |offset: &usize| match *offset {
+            offset if offset >= part.end => offset - part.len(),
+            offset if offset > part.start => part.start,
+            offset => offset,
+        };
+        let offsets: Vec<usize> = offsets.iter().map(moved).collect();
+        all.push(Sections {
+            index: index(&offsets),
+            data: without(&given.data, &part),
+            ..given.clone()
+        });
+    }
+    all
+}

@@ -1,0 +1,62 @@
+//! Lines of entries, as 01 reads them.
+
+/// The fields of a line that names an entry.
+pub struct Fields<'a> {
+    /// The first field as it stands; the word is it without its outer quote marks.
+    pub first: &'a [u8],
+    pub word: &'a [u8],
+    pub tag: &'a [u8],
+    /// The fields before the colon.
+    pub count: usize,
+    pub phones: Vec<&'a [u8]>,
+}
+
+/// What a line is.
+pub enum Line<'a> {
+    /// Skipped: blank, or a comment.
+    Nothing,
+    Entry(Fields<'a>),
+    NoColon,
+    NoWord,
+}
+
+pub fn is_blank(byte: &u8) -> bool {
+    matches!(byte, 9..=13 | 32)
+}
+
+/// A line without its end.
+pub fn read(line: &[u8]) -> Line<'_> {
+    let line = line.split(|b| *b == b'#').next().unwrap_or_default();
+    if line.iter().all(is_blank) {
+        return Line::Nothing;
+    }
+    let Some(colon) = line.iter().position(|b| *b == b':') else {
+        return Line::NoColon;
+    };
+    let head = fields(&line[..colon]);
+    let Some(first) = head.first() else {
+        return Line::NoWord;
+    };
+    Line::Entry(Fields {
+        first,
+        word: unquoted(first),
+        tag: head.get(1).copied().unwrap_or_default(),
+        count: head.len(),
+        phones: fields(&line[colon + 1..]),
+    })
+}
+
+/// The parts between blanks.
+fn fields(text: &[u8]) -> Vec<&[u8]> {
+    let parts = text.split(is_blank);
+    parts.filter(|part| !part.is_empty()).collect()
+}
+
+/// A field without the quote marks at its ends.
+fn unquoted(field: &[u8]) -> &[u8] {
+    let Some(from) = field.iter().position(|b| *b != b'"') else {
+        return &[];
+    };
+    let to = field.iter().rposition(|b| *b != b'"').unwrap_or(from);
+    &field[from..=to]
+}

@@ -1,0 +1,204 @@
+//! Stores for the short inputs: every small one, and stores at 01's limits and just past them.
+
+use crate::lexicons::Lexicon;
+use crate::scene::{Add, Scene};
+use crate::stores::{self, Placed, LARGEST, SLOT};
+use std::rc::Rc;
+
+/// An entry to be added, its phones parted by blanks.
+pub fn add(word: &str, tag: &str, phones: &str) -> Add {
+    Add {
+        word: word.into(),
+        tag: tag.into(),
+        phones: phones.split_whitespace().map(|p| p.into()).collect(),
+    }
+}
+
+/// A new store of so many slots with a byte in the others, after some adds.
+pub fn grown(slots: usize, fill: u8, adds: &[Add]) -> Vec<u8> {
+    let lexicon = Rc::new(Lexicon::of::<&str>(&[], &[]));
+    Scene::new(&lexicon, stores::new(slots, fill)).grown(adds)
+}
+
+/// Every store that up to so many adds over two words and three tags leave.
+pub fn small(most: usize) -> Vec<Vec<u8>> {
+    let keys = [
+        ("a", ""),
+        ("A", "n"),
+        ("a", "v"),
+        ("b", "nil"),
+        ("b", "n"),
+        ("B", "v"),
+    ];
+    let phones = ["k", "t", "s", "r"];
+    let mut all = vec![];
+    for count in 0..=most {
+        for choice in 0..6_usize.pow(count as u32) {
+            let made = |i: usize| {
+                let (word, tag) = keys[choice / 6_usize.pow(i as u32) % 6];
+                add(word, tag, phones[i])
+            };
+            let adds: Vec<Add> = (0..count).map(made).collect();
+            all.push(grown(most + 1, 0, &adds));
+        }
+    }
+    all
+}
+
+/// A store of two entries, the newer in the first slot, and a slot with anything in it.
+pub fn good() -> Vec<u8> {
+    let adds = [
+        add("lead", "v", "l iy d"),
+        add("a", "n", "ax"),
+        add("lead", "v", "l iy"),
+    ];
+    grown(4, 0xb7, &adds)
+}
+
+/// The good store with each of its bytes altered.
+pub fn altered_bytes() -> Vec<Vec<u8>> {
+    let good = good();
+    let mut all = vec![];
+    for at in 0..good.len() {
+        let byte = good[at];
+        for value in [0, 1, 2, 3, 24, 65, 128, 255, byte ^ 1, byte.wrapping_add(1)] {
+            // many values only where there are fields
+            if value == byte || at % SLOT > 70 && value > 2 {
+                continue;
+            }
+            let mut store = good.clone();
+            store[at] = value;
+            all.push(store);
+        }
+    }
+    all
+}
+
+/// Stores at 01's limits, and just past them.
+pub fn limits() -> Vec<Vec<u8>> {
+    let good = good();
+    let mut all = vec![good.clone(), stores::new(1, 0), stores::new(2, 0xff)];
+    for len in [0, 1, 511, 513, 1_023, 2_047, 2_049] {
+        let mut store = good.clone();
+        store.resize(len, 0);
+        all.push(store);
+    }
+    for len in [LARGEST - 1, LARGEST, LARGEST + 1, LARGEST + SLOT] {
+        all.push(vec![0; len]);
+    }
+    // cut behind its last used slot, and before it
+    all.push(good[..3 * SLOT].to_vec());
+    all.push(good[..2 * SLOT].to_vec());
+    all.push(good[..SLOT].to_vec());
+    let full = |count: usize, slots: usize| {
+        let adds: Vec<Add> = (0..count)
+            .map(|i| add(&format!("w{i}"), "", "k ae1 t"))
+            .map(|add| Add {
+                phones: vec![b"k".to_vec(); add.word.len() % 4],
+                ..add
+            })
+            .collect();
+        grown(slots, 0x5a, &adds)
+    };
+    all.push(full(127, 128));
+    all.push(full(126, 128));
+    all.push(full(2, 3));
+    // longest texts
+    let longest = Add {
+        word: vec![b'w'; 47],
+        tag: vec![b't'; 47],
+        phones: vec![b"brth".to_vec(); 24],
+    };
+    all.push(grown(2, 0, &[longest]));
+    all.push(grown(3, 0, &[add("", "", ""), add("lead", "nil", "")]));
+    all.extend(odd());
+    all.extend(unsound());
+    all
+}
+
+/// Sound stores that no add of text leaves: odd bytes in words and tags, phones that are in no table.
+fn odd() -> Vec<Vec<u8>> {
+    let good = good();
+    let chain = stores::read(&good).expect("the store is sound");
+    let mut all = vec![];
+    let mut change = |change: &dyn Fn(&mut Placed)| {
+        let mut chain = chain.clone();
+        change(&mut chain[0]);
+        all.push(stores::write(&good, &chain));
+    };
+    change(&|p| p.entry.tag = 0);
+    change(&|p| p.entry.tag = 127);
+    change(&|p| p.entry.tag = b'N');
+    change(&|p| p.entry.word = b"a: #\"\0".to_vec());
+    change(&|p| p.entry.word = vec![127; 47]);
+    change(&|p| p.entry.word = b"lead".to_vec());
+    change(&|p| p.entry.word = b"[@`{".to_vec());
+    change(&|p| p.entry.phones = vec![b"abcdefghijklmno".to_vec(), vec![], vec![127, 0]]);
+    // a longer length over zero bytes is a longer word
+    let mut longer = good.clone();
+    longer[SLOT + 3] = 47;
+    all.push(longer);
+    all
+}
+
+/// Stores that break one part of what sound means, where altering one byte does not do it.
+fn unsound() -> Vec<Vec<u8>> {
+    let good = good();
+    let mut all = vec![];
+    let mut change = |change: &dyn Fn(&mut Vec<u8>)| {
+        let mut store = good.clone();
+        change(&mut store);
+        all.push(store);
+    };
+    // one key in both slots; one word in both
+    change(&|s| s.copy_within(SLOT + 2..SLOT + 51, 2 * SLOT + 2));
+    change(&|s| s.copy_within(SLOT + 3..SLOT + 51, 2 * SLOT + 3));
+    // a chain without an end, one that misses a slot, one that leaves the used slots
+    change(&|s| s[SLOT] = 2);
+    change(&|s| s[4] = 3);
+    change(&|s| s[4] = 1);
+    change(&|s| s[4] = 0);
+    change(&|s| s[5] = 1);
+    change(&|s| s[SLOT] = 3);
+    change(&|s| s[SLOT + 1] = 255);
+    change(&|s| s[..6].fill(0));
+    change(&|s| s[2] = 2);
+    // the third slot linked, but not used
+    change(&|s| {
+        s.copy_within(2 * SLOT..3 * SLOT, 3 * SLOT);
+        s[3 * SLOT + 2] = b'z';
+        s[SLOT] = 3;
+        s[2] = 3;
+    });
+    // the third slot in the place of the first, whose entry it has
+    change(&|s| {
+        s.copy_within(SLOT..2 * SLOT, 3 * SLOT);
+        s[2 * SLOT] = 3;
+        s[2] = 3;
+    });
+    // a word of 48 bytes, over its neighbour; 25 phones
+    change(&|s| {
+        s[SLOT + 3] = 48;
+        s[SLOT + 4..SLOT + 52].fill(b'w');
+    });
+    change(&|s| s[SLOT + 51] = 25);
+    all
+}
+
+/// What a sound store has, for the table.
+pub fn features(store: &[u8], entries: &[Placed]) -> Vec<&'static str> {
+    let ordered = (1..).zip(entries).all(|(slot, placed)| slot == placed.slot);
+    let unused = &store[stores::unused(store)..];
+    let rows = [
+        ("store without entries", entries.is_empty()),
+        (
+            "store with every slot used",
+            !entries.is_empty() && unused.is_empty(),
+        ),
+        ("store of 127 entries", entries.len() == 127),
+        ("store in another order than its slots", !ordered),
+        ("anything in unused slots", unused.iter().any(|b| *b != 0)),
+    ];
+    let met = rows.iter().filter(|row| row.1);
+    met.map(|row| row.0).collect()
+}

@@ -1,0 +1,285 @@
+//! Stores of many shapes, and ways to damage them.
+
+use crate::phones::Phones;
+use crate::random::Random;
+use crate::scene::{Add, Scene};
+use crate::stores::{self, Placed, LARGEST, SLOT};
+use crate::words;
+
+/// A sound store beside a lexicon that has its form, grown by adds over some words.
+pub fn random(random: &mut Random, empty: &Scene, words: &[Vec<u8>], phones: &Phones) -> Vec<u8> {
+    let slots = match random.weighted(&[3, 16, 6, 1]) {
+        0 => 1,
+        1 => random.between(2, 8),
+        2 => random.between(2, 24),
+        _ => LARGEST / SLOT,
+    };
+    let adds = match random.weighted(&[1, 4, 4]) {
+        0 => 0,
+        1 => slots - 1,
+        _ => random.below(2 * slots),
+    };
+    of_size(random, empty, words, phones, slots, adds)
+}
+
+/// A sound store of so many slots, grown by so many adds; every other one is then renumbered, has other
+/// texts in it, or has anything in its unused slots.
+pub fn of_size(
+    random: &mut Random,
+    empty: &Scene,
+    words: &[Vec<u8>],
+    phones: &Phones,
+    slots: usize,
+    adds: usize,
+) -> Vec<u8> {
+    // a large store takes more words than a pool has
+    let any = adds > 24;
+    let adds: Vec<Add> = (0..adds)
+        .map(|_| add(random, empty, words, phones, any))
+        .collect();
+    let new = empty.with_store(stores::new(slots, 0));
+    let mut store = new.grown(&adds);
+    if random.once_in(4) {
+        store = renumbered(random, &store);
+    }
+    if random.once_in(8) {
+        store = odd(random, &store, phones);
+    }
+    if random.once_in(2) {
+        spoil_unused(random, &mut store);
+    }
+    store
+}
+
+/// An entry that can be added, over some words or any.
+pub fn add(
+    random: &mut Random,
+    scene: &Scene,
+    words: &[Vec<u8>],
+    phones: &Phones,
+    any: bool,
+) -> Add {
+    let mut word = words[random.below(words.len())].clone();
+    if any {
+        word.truncate(words::LONGEST - 3);
+        word.extend(random.bytes(3).iter().map(|b| b & 127));
+    }
+    let mut tag = words::tag(random);
+    while words::is_refused(&tag) {
+        tag = words::tag(random);
+    }
+    let count = match random.weighted(&[1, 10, 2, 1]) {
+        0 => 0,
+        1 => random.between(1, 5),
+        2 => random.between(6, 24),
+        _ => 24,
+    };
+    Add {
+        word: words::recased(random, &word),
+        tag,
+        phones: known(random, scene, phones, count),
+    }
+}
+
+/// So many phones that may be added.
+pub fn known(random: &mut Random, scene: &Scene, phones: &Phones, count: usize) -> Vec<Vec<u8>> {
+    let table = scene.lexicon.names.as_deref().unwrap_or_default();
+    let phone = |_| match table.is_empty() || random.once_in(3) {
+        true => random.pick(&phones.names).into(),
+        false => table[random.below(table.len())].clone(),
+    };
+    (0..count).map(phone).collect()
+}
+
+/// The same entries in other slots.
+pub fn renumbered(random: &mut Random, store: &[u8]) -> Vec<u8> {
+    let mut chain = stores::read(store).expect("the store is sound");
+    for i in (1..chain.len()).rev() {
+        let j = random.between(0, i);
+        let slot = chain[i].slot;
+        chain[i].slot = chain[j].slot;
+        chain[j].slot = slot;
+    }
+    stores::write(store, &chain)
+}
+
+/// Phones that are in no table, and words and tags that no line of text can hold.
+fn odd(random: &mut Random, store: &[u8], phones: &Phones) -> Vec<u8> {
+    let mut chain = stores::read(store).expect("the store is sound");
+    for placed in &mut chain {
+        let entry = &mut placed.entry;
+        match random.below(4) {
+            0 => entry.tag = random.byte() & 127,
+            1 => {
+                let at = random.below(entry.word.len() + 1);
+                let byte = random.pick_byte(b"\0 :#\"\x7f");
+                entry.word.insert(at, byte);
+                entry.word.truncate(words::LONGEST);
+            }
+            _ => {
+                for phone in &mut entry.phones {
+                    *phone = phones.phone(random);
+                }
+            }
+        }
+    }
+    let odd = stores::write(store, &chain);
+    match stores::read(&odd) {
+        Ok(_) => odd,
+        // two keys have become one
+        Err(_) => store.to_vec(),
+    }
+}
+
+/// Fills the slots past the used ones.
+pub fn spoil_unused(random: &mut Random, store: &mut [u8]) {
+    let from = stores::unused(store);
+    for byte in &mut store[from..] {
+        *byte = random.byte();
+    }
+}
+
+/// A store that is no longer sound, or still is: the driver's reader decides.
+pub fn damaged(random: &mut Random, store: &[u8]) -> Vec<u8> {
+    let mut store = store.to_vec();
+    let slots = store.len() / SLOT;
+    let used = stores::unused(&store) / SLOT - 1;
+    let slot = SLOT * random.between(usize::from(used > 0), used);
+    match random.below(15) {
+        0 => {
+            let lengths = [
+                0,
+                SLOT - 1,
+                store.len() - 1,
+                store.len() + 1,
+                LARGEST + SLOT,
+            ];
+            store.resize(lengths[random.below(5)], 0);
+        }
+        1 => store.truncate(SLOT * random.below(slots)),
+        2 => link(random, &mut store, slots),
+        3 => {
+            let link = random.below(used + 2) as u16;
+            store[slot..slot + 2].copy_from_slice(&link.to_le_bytes());
+        }
+        4 if used > 1 => {
+            // the key of another slot
+            let other = SLOT * random.between(1, used);
+            store.copy_within(other + 2..other + 51, slot + 2);
+        }
+        5 => store[slot + random.between(4, 12)] = random.pick_byte(b"AZMN@["),
+        6 => store[slot + 3] = random.pick_byte(&[0, 1, 2, 20, 46, 47, 48, 49, 127, 128, 255]),
+        7 => store[slot + 51] = random.pick_byte(&[0, 1, 2, 23, 24, 25, 26, 128, 255]),
+        8 => {
+            let cell = slot + 64 + 16 * random.below(5);
+            store[cell] = random.pick_byte(&[0, 1, 2, 14, 15, 16, 17, 128, 255]);
+        }
+        9 => store[slot + 2] = random.byte(),
+        10 => store[slot + random.between(2, 120)] |= 128,
+        11 => store[slot + random.below(SLOT)] = random.byte(),
+        12 => {
+            let zero = [6, 50, 52, 63, 63, 447, 448, 511][random.below(8)];
+            store[slot + zero] = random.between(1, 255) as u8;
+        }
+        13 if used > 0 && used + 1 < slots => in_place_of(&mut store, slot / SLOT, used + 1),
+        _ => {
+            let at = random.below(store.len());
+            store[at] ^= 1 << random.below(8);
+        }
+    }
+    store
+}
+
+/// An unused slot in the place of a used one, whose entry it gets.
+fn in_place_of(store: &mut [u8], slot: usize, unused: usize) {
+    store.copy_within(SLOT * slot..SLOT * (slot + 1), SLOT * unused);
+    let links = (0..unused).map(|slot| SLOT * slot).chain([2]);
+    for at in links {
+        if store[at..at + 2] == (slot as u16).to_le_bytes() {
+            store[at..at + 2].copy_from_slice(&(unused as u16).to_le_bytes());
+        }
+    }
+}
+
+/// Another number in a field of slot 0, or in a slot's link.
+fn link(random: &mut Random, store: &mut [u8], slots: usize) {
+    let at = [0, 2, 4][random.below(3)];
+    let value = [random.below(slots + 2), 65_535, 256][random.weighted(&[8, 1, 1])] as u16;
+    store[at..at + 2].copy_from_slice(&value.to_le_bytes());
+}
+
+/// Sound stores with something left out, for shrinking; of an unsound one, with bytes made zero.
+pub fn smaller(store: &[u8]) -> Vec<Vec<u8>> {
+    let Ok(chain) = stores::read(store) else {
+        return plainer_bytes(store);
+    };
+    let mut all = vec![];
+    let rewritten = |chain: &[Placed]| {
+        let mut chain = chain.to_vec();
+        // the slots stay in their order
+        let mut slots: Vec<usize> = chain.iter().map(|placed| placed.slot).collect();
+        slots.sort();
+        for placed in &mut chain {
+            placed.slot = 1 + slots.binary_search(&placed.slot).unwrap_or(0);
+        }
+        stores::write(store, &chain)
+    };
+    for kept in crate::shrink::shorter(&chain) {
+        all.push(rewritten(&kept));
+    }
+    let from = stores::unused(store);
+    for slots in [0, 1, 2] {
+        let len = from + SLOT * slots;
+        if len < store.len() {
+            all.push(store[..len].to_vec());
+        }
+    }
+    if store[from..].iter().any(|b| *b != 0) {
+        all.push([&store[..from], &vec![0; store.len() - from]].concat());
+    }
+    let ordered: Vec<Placed> = (1..)
+        .zip(&chain)
+        .map(|(slot, placed)| Placed {
+            slot,
+            entry: placed.entry.clone(),
+        })
+        .collect();
+    if ordered != chain {
+        all.push(rewritten(&ordered));
+    }
+    for i in 0..chain.len().min(16) {
+        let phones = crate::shrink::shorter(&chain[i].entry.phones);
+        let words = crate::shrink::shorter(&chain[i].entry.word);
+        let mut change = |change: &dyn Fn(&mut Placed)| {
+            let mut chain = chain.clone();
+            change(&mut chain[i]);
+            all.push(rewritten(&chain));
+        };
+        for phones in phones {
+            change(&|placed| placed.entry.phones = phones.clone());
+        }
+        for word in words {
+            change(&|placed| placed.entry.word = word.clone());
+        }
+    }
+    all
+}
+
+fn plainer_bytes(store: &[u8]) -> Vec<Vec<u8>> {
+    let mut all = crate::shrink::shorter(store);
+    all.truncate(64);
+    for slots in 0..store.len() / SLOT {
+        all.push(store[..SLOT * slots].to_vec());
+    }
+    let parts = crate::shrink::parts(store.len());
+    let parts = parts.into_iter();
+    let single = (0..store.len().min(4 * SLOT)).map(|at| at..at + 1);
+    for part in parts.chain(single) {
+        if store[part.clone()].iter().any(|b| *b != 0) {
+            let mut store = store.to_vec();
+            store[part].fill(0);
+            all.push(store);
+        }
+    }
+    all
+}
