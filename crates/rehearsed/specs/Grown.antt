@@ -7,7 +7,7 @@ use mathlib.Core.Bool.{Bool, true, false, not, _&&_, _||_}
 use mathlib.Core.List.{List, [], _∷_, _++_, map}
 use lib.Dec.{leb, ltb}
 use lib.ListN.{length, drop, length-map, length-append}
-use borrow.Author.Tests.{lt-leb, le-ltb, not-true}
+use borrow.Author.Tests.{lt-leb, not-true}
 use Rattle.texts.specs.Choice.{if_then_else_, both-true, cases}
 use Rattle.texts.specs.Lists.{some, every}
 use Rattle.texts.specs.Text.{isWord}
@@ -24,7 +24,7 @@ use Rattle.answers.specs.declared.Source.{Source}
 use Rattle.answers.specs.Told.{accepted, sourceNumber}
 use Rattle.lexicon.specs.Adding.{mayAdd, mayAddCell, mayAddAll, newEntry, addEntry, storeAfter}
 use Rattle.lexicon.specs.Accepted.{add-law}
-use Rattle.lexicon.specs.Lookup.{found, find, wantedTag, lookup, lookedUp}
+use Rattle.lexicon.specs.Lookup.{Finding, found, find, wantedTag, toldFinding, outFinding, found-fits, lookup, lookedUp, lookup-on-entries}
 
 -- an entry to be added: a word, a tag, its phones as cells
 pub record Add : Type 0 where
@@ -114,8 +114,7 @@ grow table store (a ∷ more) t s p room =
 pub answered : (phones index dat store word tag out : List ℕ) (s : Source) (ps : List (List ℕ)) → isLexicon phones index ≡ true → Sound store → (isWord word && isWord tag) ≡ true
     → find (entries store) phones index dat word (wantedTag tag) ≡ found s ps → length ps ≤ 96 → 16 * length ps ≤ length out
     → (lookup phones index dat store word tag out ≡ accepted (sourceNumber s) (length ps)) × (lookedUp phones index dat store word tag out ≡ cellsOf ps ++ drop (16 * length ps) out)
-unfolding lookup lookedUp
 answered phones index dat store word tag out s ps f h w e n l =
-    let a = le-ltb 96 (length ps) n in
-    let b = le-ltb (length out) (16 * length ps) l in
-    (rw (f, is-sound store h, w, e, a, b), rw (f, is-sound store h, w, e, a, b))
+    let a = lookup-on-entries phones index dat store word tag out f (is-sound store h) w in
+    let b = found-fits s ps out n l in
+    (a .0 ∙ ap (λ (x : Finding). toldFinding x out) e ∙ sym (b .0), a .1 ∙ ap (λ (x : Finding). outFinding x out) e ∙ sym (b .1))
