@@ -1,6 +1,6 @@
 // The 42 addenda (01, Lookup): words that the compiled entries would get wrong.
 ghost use mathlib.Core.Path.{_≡_};
-ghost use mathlib.Core.List.{[], _++_};
+ghost use mathlib.Core.List.{_++_};
 ghost use Prim.Native.Nat.{_*_, _≤_, _<_};
 ghost use lib.ListN.{length, getD, drop};
 ghost use Rattle.texts.specs.Lists.{place};

@@ -1,19 +1,19 @@
 -- An accepted add entry leaves a sound store whose entries are the old ones without that key and then the new one.
 -- Assumes nothing.
-use Prim.Native.Nat.{ℕ, zero, suc, _+_, _/_, _≤_, _<_}
+use Prim.Native.Nat.{ℕ, _+_, _/_, _≤_, _<_}
 use native.Mathlib.Omega.{arith}
-use mathlib.Core.Path.{_≡_, refl, sym, ap, _∙_}
-use mathlib.Core.Bool.{Bool, true, false, not, _&&_}
+use mathlib.Core.Path.{_≡_, refl, ap, _∙_}
+use mathlib.Core.Bool.{true, false, _&&_}
 use mathlib.Core.List.{List, [], _∷_, map}
-use lib.Dec.{leb, ltb, eqb}
+use lib.Dec.{leb, ltb}
 use lib.ListN.{length, getD, length-map}
-use borrow.Author.Tests.{leb-true, leb-false, le-leb, ltb-true, lt-ltb, le-ltb, ltb-false}
-use Rattle.texts.specs.Choice.{if_then_else_, both-true, cases, never}
+use borrow.Author.Tests.{leb-true, lt-ltb, ltb-false}
+use Rattle.texts.specs.Choice.{both-true, cases}
 use Rattle.texts.specs.Lists.{every}
-use Rattle.texts.specs.Text.{bytes, folded, low, ascii, isWord, same, word-short}
-use Rattle.cells.specs.Cells.{phonesOf, asciiPhones, length-phonesOf}
+use Rattle.texts.specs.Text.{bytes, folded, low, ascii, isWord, same}
+use Rattle.cells.specs.Cells.{asciiPhones, length-phonesOf}
 use Rattle.data.specs.Sections.{isPhoneTable}
-use Rattle.slots.specs.Slot.{Entry, Fits, isFolded, isPhone, folded-small, phones-fit}
+use Rattle.slots.specs.Slot.{Fits, folded-small, phones-fit}
 use Rattle.store.specs.Store.{isSound}
 use Rattle.store.specs.Adding.{entryFor, isFull}
 use Rattle.store.specs.Sound.{Sound, sound}

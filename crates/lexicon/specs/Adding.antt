@@ -8,7 +8,7 @@ use mathlib.Core.List.{List, [], _∷_, map}
 use lib.Dec.{ltb}
 use lib.ListN.{length, getD}
 use Rattle.texts.specs.Choice.{if_then_else_}
-use Rattle.texts.specs.Lists.{every, some}
+use Rattle.texts.specs.Lists.{every}
 use Rattle.texts.specs.Text.{bytes, folded, isWord, same}
 use Rattle.records.specs.Records.{records}
 use Rattle.cells.specs.Cells.{text, asciiPhones, shortCell}

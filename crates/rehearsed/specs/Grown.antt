@@ -1,14 +1,14 @@
 -- Stores that a list of added entries makes of a new store, by the call's own definitions; what they hold, and what a word without a tag then gives.
 -- Assumes nothing.
-use Prim.Native.Nat.{ℕ, zero, suc, _+_, _*_, _/_, _≤_, _<_}
+use Prim.Native.Nat.{ℕ, _+_, _*_, _/_, _≤_, _<_}
 use native.Mathlib.Omega.{arith}
-use mathlib.Core.Path.{_≡_, refl, sym, ap, _∙_, subst}
-use mathlib.Core.Bool.{Bool, true, false, not, _&&_, _||_}
-use mathlib.Core.List.{List, [], _∷_, _++_, map}
-use lib.Dec.{leb, ltb}
+use mathlib.Core.Path.{_≡_, refl, sym, ap, _∙_}
+use mathlib.Core.Bool.{Bool, true, not, _&&_}
+use mathlib.Core.List.{List, [], _∷_, _++_}
+use lib.Dec.{ltb}
 use lib.ListN.{length, drop, length-map, length-append}
 use borrow.Author.Tests.{lt-leb, not-true}
-use Rattle.texts.specs.Choice.{if_then_else_, both-true, cases}
+use Rattle.texts.specs.Choice.{both-true, cases}
 use Rattle.texts.specs.Lists.{some, every}
 use Rattle.texts.specs.Text.{isWord}
 use Rattle.records.specs.Records.{records}

@@ -1,7 +1,7 @@
 -- 01, Lookup: Adding. An entry of that word and tag goes, and the new one is last; how the store's bytes change.
 -- Assumes nothing.
 use Prim.Native.Nat.{ℕ, zero, suc, _+_, _*_}
-use mathlib.Core.Bool.{Bool, true, false, not, _&&_}
+use mathlib.Core.Bool.{Bool, not, _&&_}
 use mathlib.Core.List.{List, [], _∷_, _++_}
 use lib.Dec.{eqb, leb}
 use Rattle.texts.specs.Choice.{if_then_else_}
@@ -10,7 +10,7 @@ use Rattle.records.specs.Fields.{put16}
 use Rattle.records.specs.Records.{putRecord}
 use Rattle.cells.specs.Cells.{phonesOf}
 use Rattle.slots.specs.Slot.{Entry, slot}
-use Rattle.store.specs.Store.{next, last, used, slots, entries, entryAt, isWanted, sameKey}
+use Rattle.store.specs.Store.{next, last, used, slots, entries, entryAt, sameKey}
 
 -- entries without those of a key
 unfoldable pub without : Entry → List Entry → List Entry

@@ -1,18 +1,18 @@
 -- What each write into a store changes: a next field, a field of slot 0, a slot written whole. Links and slots elsewhere are as they were.
 -- Assumes nothing.
-use Prim.Native.Nat.{ℕ, zero, suc, _+_, _*_, _%_, _/_, _≤_, _<_}
+use Prim.Native.Nat.{ℕ, _+_, _*_, _%_, _/_, _≤_, _<_}
 use native.Mathlib.Nat.{zero-add}
 use native.Mathlib.Omega.{arith}
 use native.Mathlib.Decide.{ℕ-discrete}
-use mathlib.Core.Path.{_≡_, refl, sym, ap, _∙_, subst}
+use mathlib.Core.Path.{_≡_, sym, ap, _∙_}
 use mathlib.Core.Logic.{_≢_}
-use mathlib.Core.Bool.{Bool, true, false}
-use mathlib.Core.List.{List, []}
-use lib.ListN.{length, getD, take, drop, set}
+use mathlib.Core.Bool.{true}
+use mathlib.Core.List.{List}
+use lib.ListN.{length, getD, drop, set}
 use lib.Seq.{getD-set-other, drop-set-lt}
 use Rattle.records.specs.Fields.{u16At, put16, u16-put-same, u16-put-other}
 use Rattle.records.specs.Records.{recordAt, putRecord, u16-of, putRecord-same, putRecord-other, put16-same, put16-other}
-use Rattle.slots.specs.Slot.{Entry, Fits, slot, entryOf, isSlot, slot-put, slot-next, slot-of, slot-isSlot, slot-entry, length-slot}
+use Rattle.slots.specs.Slot.{Entry, Fits, slot, entryOf, isSlot, slot-put, slot-next, slot-of, slot-isSlot, length-slot}
 use Rattle.store.specs.Store.{next, last, used, entryAt}
 
 -- a slot is sound as it was, and holds the entry it held

@@ -1,20 +1,19 @@
 -- A search in a sound store, told of its entries: whether one is wanted, and the first that is.
 -- Assumes nothing.
-use Prim.Native.Nat.{ℕ, _+_, _*_, _≤_, _<_}
+use Prim.Native.Nat.{ℕ, _≤_}
 use native.Mathlib.Omega.{arith}
-use mathlib.Core.Path.{_≡_, refl, sym, ap, _∙_, subst}
+use mathlib.Core.Path.{_≡_, refl, ap, _∙_, subst}
 use mathlib.Core.Logic.{_≢_}
 use mathlib.Core.Bool.{Bool, true, false, not}
 use mathlib.Core.List.{List, [], _∷_, _++_, map}
 use lib.Dec.{eqb}
-use lib.ListN.{length}
 use borrow.Author.Tests.{eq-eqb, ne-eqb}
 use Rattle.texts.specs.Choice.{if_then_else_}
 use mathlib.Core.Option.{Option, none as nothing, some as just}
 use Rattle.texts.specs.Lists.{some, first}
-use Rattle.records.specs.Chain.{All, Linked, endOf, all-left, all-right, all-end}
+use Rattle.records.specs.Chain.{All, endOf, all-left, all-right, all-end}
 use Rattle.slots.specs.Slot.{Entry}
-use Rattle.store.specs.Store.{next, last, used, slots, entryAt, entries}
+use Rattle.store.specs.Store.{next, used, entryAt, entries}
 use Rattle.store.specs.Adding.{seek}
 use Rattle.store.specs.Sound.{Slot, Sound, entries-are}
 use Rattle.store.specs.Sought.{Sought, none, found, sought}

@@ -1,13 +1,13 @@
 -- A store as new store leaves it is sound and has no entries.
 -- Assumes nothing.
-use Prim.Native.Nat.{ℕ, _+_, _*_, _%_, _/_, _≤_, _<_}
+use Prim.Native.Nat.{ℕ, _+_, _*_, _%_, _≤_, _<_}
 use native.Mathlib.Nat.{zero-add}
 use native.Mathlib.Omega.{arith}
 use mathlib.Core.Path.{_≡_, refl, sym, ap, _∙_}
-use mathlib.Core.Bool.{Bool, true, false, _&&_}
+use mathlib.Core.Bool.{true, _&&_}
 use mathlib.Core.List.{List, []}
 use lib.Dec.{leb, eqb}
-use lib.ListN.{length, drop, replicate}
+use lib.ListN.{length, drop}
 use borrow.Author.Tests.{leb-true}
 use Rattle.texts.specs.Choice.{both-true}
 use Rattle.texts.specs.Lists.{every}
@@ -15,7 +15,7 @@ use Rattle.texts.specs.Text.{is}
 use Rattle.records.specs.Fields.{u16At}
 use Rattle.records.specs.Records.{recordAt, putRecord, putRecord-same, length-putRecord, u16-of}
 use Rattle.records.specs.Chain.{endOf}
-use Rattle.store.specs.Store.{next, last, used, slots, entries, isStoreLength, newHead, keysDiffer}
+use Rattle.store.specs.Store.{next, entries, isStoreLength, newHead, keysDiffer}
 use Rattle.store.specs.Sound.{Sound, entries-are}
 
 long : (n : ℕ) → isStoreLength n ≡ true → 512 ≤ n

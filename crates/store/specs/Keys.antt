@@ -1,12 +1,11 @@
 -- The adding rule on lists of entries: keys that differ still differ, and what goes is the one entry of that key.
 -- Assumes nothing.
-use Prim.Native.Nat.{ℕ}
-use mathlib.Core.Path.{_≡_, refl, sym, ap, _∙_}
-use mathlib.Core.Bool.{Bool, true, false, not, _&&_, _||_}
-use mathlib.Core.List.{List, [], _∷_, _++_, append-assoc}
+use mathlib.Core.Path.{_≡_, refl, sym, _∙_}
+use mathlib.Core.Bool.{Bool, true, false, not, _||_}
+use mathlib.Core.List.{List, [], _∷_, _++_}
 use lib.Dec.{eqb}
 use borrow.Author.Tests.{eqb-true, eq-eqb, not-true}
-use Rattle.texts.specs.Choice.{if_then_else_, both-true, cases, never, is-false}
+use Rattle.texts.specs.Choice.{both-true, cases, never, is-false}
 use Rattle.texts.specs.Lists.{some}
 use Rattle.texts.specs.Text.{agree, same, same-true, same-refl}
 use Rattle.slots.specs.Slot.{Entry}

@@ -1,3 +1,4 @@
+-- To believe: Store and Adding say what a store is and how adding changes it; Sound says the same declaratively. The others are laws.
 pub mod Store
 pub mod Adding
 pub mod Sound

@@ -1,15 +1,13 @@
 -- Adding a tag, a folded word and phones, told by the slot that the search tells.
 -- Assumes nothing.
-use Prim.Native.Nat.{ℕ, _+_, _≤_, _<_}
-use mathlib.Core.Path.{_≡_, refl, ap, _∙_}
+use Prim.Native.Nat.{ℕ, _+_}
+use mathlib.Core.Path.{_≡_}
 use mathlib.Core.Logic.{_≢_}
-use mathlib.Core.Bool.{Bool, true, false, not, _&&_}
+use mathlib.Core.Bool.{false}
 use mathlib.Core.List.{List}
-use lib.Dec.{eqb, leb}
+use lib.Dec.{leb}
 use borrow.Author.Tests.{eq-eqb, ne-eqb}
-use Rattle.texts.specs.Lists.{some}
-use Rattle.records.specs.Fields.{put16}
-use Rattle.store.specs.Store.{next, used, slots, entries, isWanted, sameKey}
+use Rattle.store.specs.Store.{next, used, slots, isWanted, sameKey}
 use Rattle.store.specs.Adding.{seek, cutOut, tied, placed, added, isFull, kept, addedNew, entryFor}
 use Rattle.store.specs.Sound.{Sound}
 use Rattle.store.specs.Found.{Tells, tells}

@@ -1,11 +1,11 @@
 -- 01, Store and sheet: what a sound store is, said of its slots in chain order, for any numbering; `isSound` decides it.
 -- Assumes nothing.
-use Prim.Native.Nat.{ℕ, zero, suc, _+_, _*_, _%_, _/_, _≤_, _<_}
+use Prim.Native.Nat.{ℕ, zero, suc, _≤_, _<_}
 use native.Mathlib.Omega.{arith}
-use mathlib.Core.Path.{_≡_, refl, sym, ap, _∙_, subst}
+use mathlib.Core.Path.{_≡_, refl, ap, subst}
 use mathlib.Core.Logic.{_≢_}
-use mathlib.Core.Bool.{Bool, true, false, not, _&&_}
-use mathlib.Core.List.{List, [], _∷_, _++_, map}
+use mathlib.Core.Bool.{true, not, _&&_}
+use mathlib.Core.List.{List, [], _∷_, map}
 use lib.Dec.{eqb, leb, ltb}
 use lib.ListN.{length, drop}
 use borrow.Author.Tests.{eqb-true, eq-eqb, ne-eqb, eqb-false, leb-true, le-leb, ltb-true, lt-ltb, not-true}
@@ -14,7 +14,7 @@ use Rattle.texts.specs.Lists.{every}
 use Rattle.texts.specs.Text.{is}
 use Rattle.records.specs.Records.{recordAt}
 use Rattle.records.specs.Chain.{All, Distinct, Linked, chain, endOf, chain-more, chain-linked, distinct}
-use Rattle.slots.specs.Slot.{Entry, Fits, slot, entryOf, isSlot}
+use Rattle.slots.specs.Slot.{slot, isSlot}
 use Rattle.store.specs.Store.{next, last, used, slots, entryAt, order, entries, isStoreLength, keysDiffer, walks, isSound}
 
 -- a slot in the chain: numbered 1 to used, and sound by itself

@@ -2,15 +2,15 @@
 ghost use mathlib.Core.Path.{_≡_};
 ghost use mathlib.Core.Bool.{true, false};
 ghost use mathlib.Core.List.{map};
-ghost use Prim.Native.Nat.{_+_, _*_, _/_, _≤_, _<_, _^_};
-ghost use lib.ListN.{length, drop};
+ghost use Prim.Native.Nat.{_+_, _*_, _/_, _≤_, _<_};
+ghost use lib.ListN.{length};
 ghost use Rattle.texts.specs.Lists.{every, some};
 ghost use Rattle.texts.specs.Text.{is};
 ghost use Rattle.records.specs.Records.{recordAt};
 ghost use Rattle.records.specs.Chain.{chain, endOf};
 ghost use Rattle.slots.specs.Slot.{entryOf};
 ghost use Rattle.answers.specs.Told.{toldDone};
-ghost use Rattle.store.specs.Store.{next as nextOf, last, used as usedOf, entryAt, order, entries, isStoreLength, isWanted, sameKey, keysDiffer, walks as walksOf, isSound, newStore, newBytes};
+ghost use Rattle.store.specs.Store.{next as nextOf, last, used as usedOf, entryAt, entries, isStoreLength, isWanted, sameKey, keysDiffer, walks as walksOf, isSound, newStore, newBytes};
 use answers::Done;
 use answers::Refusal;
 

@@ -1,14 +1,12 @@
 -- `slots::is_fit` meets its contract: each return is decided by the first test of the definition that fails. Assumes nothing.
 use Rattle.slots.specs.Slot.{entryOf, fits, isFolded, count-fits, phones-fit}
-use Rattle.cells.specs.Cells.{asciiPhones}
 use Rattle.texts.specs.Text.{low, isWord}
 use borrow.Author.Tests.{lt-ltb, le-ltb, le-leb, lt-leb, not-true, not-false}
 use lib.ListN.{length, getD}
 use lib.Dec.{leb}
 use mathlib.Core.Bool.{true, false}
-use mathlib.Core.Path.{_≡_, refl, sym, ap, _∙_}
+use mathlib.Core.Path.{_≡_, sym, ap, _∙_}
 use native.Mathlib.Omega.{arith}
-use Prim.Native.Nat.{ℕ, _≤_, _<_}
 use borrow.Author.Needs.{needs}
 use Rattle.slots.proofs.is_fit.Statement.{statement}
 use Rattle.slots.proofs.is_fit.Tie as tie

@@ -4,11 +4,10 @@ use Rattle.texts.specs.Text.{folded}
 use Rattle.texts.specs.Lists.{every, every-turn, every-stop, every-end}
 use borrow.Author.Tests.{eq-eqb, ne-eqb}
 use lib.ListN.{length, drop, getD}
-use lib.Dec.{eqb}
 use mathlib.Core.Bool.{true, false}
-use mathlib.Core.Path.{_≡_, refl, sym, ap, _∙_}
+use mathlib.Core.Path.{_≡_, refl, sym, _∙_}
 use native.Mathlib.Omega.{arith}
-use Prim.Native.Nat.{ℕ, _+_, _-_, _≤_, zero-le}
+use Prim.Native.Nat.{_-_, _≤_}
 use borrow.Author.Needs.{needs}
 use Rattle.slots.proofs.is_folded.Statement.{statement}
 use Rattle.slots.proofs.is_folded.Tie as tie

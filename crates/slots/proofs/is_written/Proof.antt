@@ -1,15 +1,15 @@
 -- `slots::is_written` meets its contract: room becomes the slot of the entry that is read, with the same next. Assumes nothing.
-use Rattle.slots.specs.Slot.{Entry, Fits, entryOf, fits, slot, isSlot, fits-parts, fold-folded, slot-put, length-slot}
-use Rattle.cells.specs.Cells.{phonesOf, length-phonesOf}
-use Rattle.records.specs.Fields.{u16At, put16, length-put16}
+use Rattle.slots.specs.Slot.{Fits, entryOf, fits, slot, isSlot, fits-parts, fold-folded, slot-put}
+use Rattle.cells.specs.Cells.{length-phonesOf}
+use Rattle.records.specs.Fields.{u16At}
 use Rattle.texts.specs.Text.{folded, same, word-short}
 use borrow.Author.Tests.{not-true, not-false}
 use lib.ListN.{length}
 use mathlib.Core.List.{List, map}
-use mathlib.Core.Bool.{true, false}
-use mathlib.Core.Path.{_≡_, refl, sym, ap, _∙_}
+use mathlib.Core.Bool.{true}
+use mathlib.Core.Path.{_≡_, sym, ap, _∙_}
 use native.Mathlib.Omega.{arith}
-use Prim.Native.Nat.{ℕ, _≤_, _<_, _/_}
+use Prim.Native.Nat.{ℕ}
 use borrow.Author.Needs.{needs}
 use Rattle.slots.proofs.is_written.Statement.{statement}
 use Rattle.slots.proofs.is_written.Tie as tie

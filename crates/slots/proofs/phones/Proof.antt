@@ -1,7 +1,5 @@
 -- `slots::phones` meets its contract: as many cells from 64 on as byte 51 tells. Assumes nothing.
-use native.Mathlib.Omega.{arith}
 use Rattle.slots.specs.Slot.{entryOf}
-use mathlib.Core.Path.{_≡_, ap, _∙_}
 use borrow.Author.Needs.{needs}
 use Rattle.slots.proofs.phones.Statement.{statement}
 use Rattle.slots.proofs.phones.Tie as tie

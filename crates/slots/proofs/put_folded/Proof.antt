@@ -3,11 +3,11 @@ use Rattle.records.specs.Records.{paste-turn}
 use Rattle.texts.specs.Text.{folded}
 use Rattle.texts.specs.Lists.{getD-map}
 use lib.Seq.{paste, paste-zero}
-use lib.ListN.{length, getD, length-set, length-map}
+use lib.ListN.{length, length-set, length-map}
 use mathlib.Core.List.{map}
 use mathlib.Core.Path.{_≡_, refl, sym, ap, _∙_}
 use native.Mathlib.Omega.{arith}
-use Prim.Native.Nat.{ℕ, _+_, _-_, _≤_, zero-le}
+use Prim.Native.Nat.{ℕ, _-_, _≤_, zero-le}
 use borrow.Author.Needs.{needs}
 use Rattle.slots.proofs.put_folded.Statement.{statement}
 use Rattle.slots.proofs.put_folded.Tie as tie

@@ -1,6 +1,6 @@
 -- `slots::word` meets its contract: as many bytes from 4 on as byte 3 tells. Assumes nothing.
 use Rattle.slots.specs.Slot.{entryOf}
-use mathlib.Core.Path.{_≡_, ap, _∙_}
+use mathlib.Core.Path.{_∙_}
 use borrow.Author.Needs.{needs}
 use Rattle.slots.proofs.word.Statement.{statement}
 use Rattle.slots.proofs.word.Tie as tie

@@ -2,14 +2,11 @@
 use Rattle.slots.proofs.Front.{slot-written}
 use Rattle.slots.specs.Slot.{slot}
 use Rattle.cells.specs.Cells.{phonesOf, cellsOf, length-phonesOf, length-cellsOf, phone-fits}
-use Rattle.records.specs.Records.{front-byte, front-part, front-u16}
 use Rattle.texts.specs.Text.{folded}
-use lib.Seq.{take-all}
-use lib.ListN.{length, take, set, replicate, length-set, length-map, length-replicate}
-use mathlib.Core.List.{List, [], _∷_, _++_, map}
-use mathlib.Core.Path.{_≡_, refl, sym, ap, _∙_}
+use lib.ListN.{length, length-set, length-map}
+use mathlib.Core.List.{map}
+use mathlib.Core.Path.{_≡_, refl, sym, _∙_}
 use native.Mathlib.Omega.{arith}
-use Prim.Native.Nat.{ℕ, _+_, _-_, _*_, _/_, _≤_, _<_}
 use borrow.Author.Needs.{needs}
 use Rattle.slots.proofs.write.Statement.{statement}
 use Rattle.slots.proofs.write.Tie as tie

@@ -1,5 +1,5 @@
 -- `lexicon::adding::add_entry` meets its contract: each return is decided by the first test of the definition that fails. Assumes nothing.
-use Rattle.lexicon.specs.Adding.{mayAddAll, newEntry, addedTag, addEntry, storeAfter}
+use Rattle.lexicon.specs.Adding.{mayAddAll, newEntry, addEntry, storeAfter}
 use Rattle.store.specs.Adding.{entryFor, isFull, kept}
 use Rattle.store.specs.Store.{isSound}
 use Rattle.data.specs.Sections.{isPhoneTable}
@@ -9,11 +9,10 @@ use Rattle.texts.specs.Choice.{both-true}
 use borrow.Author.Tests.{not-true, not-false, le-ltb, lt-ltb}
 use lib.ListN.{length}
 use lib.Dec.{ltb}
-use mathlib.Core.List.{List, map}
-use mathlib.Core.Bool.{true, false, not, _&&_}
-use mathlib.Core.Path.{_≡_, refl, sym, ap, _∙_}
-use native.Mathlib.Omega.{arith}
-use Prim.Native.Nat.{ℕ, _/_, _≤_}
+use mathlib.Core.List.{map}
+use mathlib.Core.Bool.{true, false, _&&_}
+use mathlib.Core.Path.{_≡_, refl, sym, _∙_}
+use Prim.Native.Nat.{_/_, _≤_}
 use borrow.Author.Needs.{needs}
 use Rattle.lexicon.proofs.adding.add_entry.Statement.{statement}
 use Rattle.lexicon.proofs.adding.add_entry.Tie as tie

@@ -1,14 +1,12 @@
 -- `lexicon::adding::add_from` meets its contract: room's front is the folded word, which is what the store is asked to add. Assumes nothing.
-use Rattle.store.specs.Adding.{entryFor, isFull, kept}
-use Rattle.slots.specs.Slot.{isFolded, folded-small}
+use Rattle.slots.specs.Slot.{folded-small}
 use Rattle.records.specs.Records.{take-front}
 use Rattle.texts.specs.Text.{folded}
 use lib.ListN.{length, take, length-map}
 use mathlib.Core.List.{List, map}
-use mathlib.Core.Bool.{true, not}
-use mathlib.Core.Path.{_≡_, refl, sym, ap, _∙_}
+use mathlib.Core.Path.{_≡_, ap, _∙_}
 use native.Mathlib.Omega.{arith}
-use Prim.Native.Nat.{ℕ, _+_, _≤_, _/_}
+use Prim.Native.Nat.{ℕ}
 use borrow.Author.Needs.{needs}
 use Rattle.lexicon.proofs.adding.add_from.Statement.{statement}
 use Rattle.lexicon.proofs.adding.add_from.Tie as tie

@@ -1,7 +1,6 @@
 -- `lexicon::adding::added_tag` meets its contract: "nil" first, then the first byte. Assumes nothing.
 use Rattle.lexicon.specs.Adding.{addedTag}
-use borrow.Author.Tests.{not-true, not-false}
-use mathlib.Core.Path.{_≡_, sym, _∙_}
+use mathlib.Core.Path.{sym, _∙_}
 use borrow.Author.Needs.{needs}
 use Rattle.lexicon.proofs.adding.added_tag.Statement.{statement}
 use Rattle.lexicon.proofs.adding.added_tag.Tie as tie

@@ -1,6 +1,6 @@
 -- `lexicon::adding::are_texts` meets its contract: word, tag, phones. Assumes nothing.
 use borrow.Author.Tests.{not-true, not-false}
-use mathlib.Core.Path.{_≡_, sym, _∙_}
+use mathlib.Core.Path.{sym, _∙_}
 use borrow.Author.Needs.{needs}
 use Rattle.lexicon.proofs.adding.are_texts.Statement.{statement}
 use Rattle.lexicon.proofs.adding.are_texts.Tie as tie

@@ -1,9 +1,9 @@
 -- `lexicon::adding::first_or_any` meets its contract: an empty tag has no first byte. Assumes nothing.
 use Rattle.lexicon.specs.Adding.{getD-in}
-use lib.ListN.{length, getD, List·getD-eq-default}
-use mathlib.Core.Path.{_≡_, refl, sym, _∙_}
+use lib.ListN.{length, List·getD-eq-default}
+use mathlib.Core.Path.{sym}
 use native.Mathlib.Omega.{arith}
-use Prim.Native.Nat.{_<_, _≤_}
+use Prim.Native.Nat.{_≤_}
 use borrow.Author.Needs.{needs}
 use Rattle.lexicon.proofs.adding.first_or_any.Statement.{statement}
 use Rattle.lexicon.proofs.adding.first_or_any.Tie as tie

@@ -1,6 +1,6 @@
 -- `lexicon::adding::may_add` meets its contract: the table first, then the 50. Assumes nothing.
 use Rattle.lexicon.specs.Adding.{mayAdd}
-use mathlib.Core.Path.{_≡_, sym, _∙_}
+use mathlib.Core.Path.{sym, _∙_}
 use borrow.Author.Needs.{needs}
 use Rattle.lexicon.proofs.adding.may_add.Statement.{statement}
 use Rattle.lexicon.proofs.adding.may_add.Tie as tie

@@ -1,14 +1,13 @@
 -- `lexicon::adding::may_add_all` meets its contract: the cells passed may be added, so those left decide. Assumes nothing.
 use Rattle.lexicon.specs.Adding.{mayAddCell, mayAddAll}
-use Rattle.records.specs.Records.{records, recordAt, record-of, length-records}
+use Rattle.records.specs.Records.{records, record-of, length-records}
 use Rattle.texts.specs.Lists.{every, every-turn, every-stop, every-end}
 use borrow.Author.Tests.{not-true, not-false}
-use lib.ListN.{length, getD, drop}
+use lib.ListN.{length, drop}
 use mathlib.Core.List.{[]}
-use mathlib.Core.Bool.{true, false}
 use mathlib.Core.Path.{_≡_, refl, sym, ap, _∙_}
 use native.Mathlib.Omega.{arith}
-use Prim.Native.Nat.{ℕ, _-_, _<_, _≤_, _/_}
+use Prim.Native.Nat.{_-_, _≤_, _/_}
 use borrow.Author.Needs.{needs}
 use Rattle.lexicon.proofs.adding.may_add_all.Statement.{statement}
 use Rattle.lexicon.proofs.adding.may_add_all.Tie as tie

@@ -2,19 +2,14 @@
 use Rattle.lexicon.specs.Lookup.{find-runtime, find-row, find-compiled}
 use Rattle.store.specs.Found.{tells, foundAt, found-none, found-some}
 use Rattle.store.specs.Sound.{sound}
-use Rattle.store.specs.Adding.{seek}
-use Rattle.store.specs.Store.{isWanted, entries, entryAt, next, used}
-use Rattle.slots.specs.Slot.{Entry, entryOf}
+use Rattle.store.specs.Store.{isWanted, entries, entryAt}
+use Rattle.slots.specs.Slot.{entryOf}
 use Rattle.texts.specs.Text.{folded}
 use Rattle.texts.specs.Lists.{first}
-use borrow.Author.Tests.{eq-eqb, ne-eqb}
-use mathlib.Core.Option.{Option, none, some}
 use mathlib.Core.List.{List, map}
-use mathlib.Core.Bool.{true, false}
-use mathlib.Core.Logic.{_≢_}
-use mathlib.Core.Path.{_≡_, refl, sym, ap, _∙_}
-use native.Mathlib.Omega.{arith}
-use Prim.Native.Nat.{ℕ, _≤_, _<_}
+use mathlib.Core.Bool.{true}
+use mathlib.Core.Path.{_≡_, sym, ap, _∙_}
+use Prim.Native.Nat.{ℕ}
 use borrow.Author.Needs.{needs}
 use Rattle.lexicon.proofs.looking.find.Statement.{statement}
 use Rattle.lexicon.proofs.looking.find.Tie as tie

@@ -3,11 +3,10 @@ use Rattle.lexicon.specs.Lookup.{found-many, found-short, found-fits}
 use Rattle.answers.specs.declared.Source.the-variants.{Runtime}
 use Rattle.answers.specs.Told.{accepted}
 use Rattle.cells.specs.Cells.{phonesOf, length-phonesOf, phone-fits, cells-front}
-use lib.ListN.{length, getD}
-use mathlib.Core.List.{[]}
-use mathlib.Core.Path.{_≡_, refl, sym, ap, _∙_}
+use lib.ListN.{length}
+use mathlib.Core.Path.{sym, ap, _∙_}
 use native.Mathlib.Omega.{arith}
-use Prim.Native.Nat.{ℕ, _*_, _/_, _≤_, _<_}
+use Prim.Native.Nat.{ℕ, _/_}
 use Rattle.lexicon.proofs.looking.give_cells.Statement.{statement}
 use Rattle.lexicon.proofs.looking.give_cells.Tie as tie
 

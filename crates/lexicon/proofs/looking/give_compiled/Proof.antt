@@ -2,19 +2,13 @@
 use Rattle.lexicon.specs.Lookup.{fromCompiled}
 use Rattle.compiled.specs.declared.Chosen.the-variants.{Entry}
 use Rattle.compiled.specs.declared.Chosen.{Chosen}
-use Rattle.compiled.specs.Call.{isLexicon, lexicon-table, index-room}
+use Rattle.compiled.specs.Call.{lexicon-table, index-room}
 use Rattle.compiled.specs.Below.{Below, below}
 use Rattle.compiled.specs.Search.{chosen}
 use Rattle.compiled.specs.Entries.{count}
-use Rattle.data.specs.Sections.{isPhoneTable, isLexIndex}
-use Rattle.texts.specs.Choice.{both-true}
-use borrow.Author.Tests.{leb-true}
-use lib.ListN.{length}
-use lib.Dec.{leb}
-use mathlib.Core.Bool.{true, false, _&&_}
-use mathlib.Core.Path.{_≡_, refl, sym, ap, _∙_, subst}
+use mathlib.Core.Path.{_≡_, sym, _∙_, subst}
 use native.Mathlib.Omega.{arith}
-use Prim.Native.Nat.{ℕ, _+_, _*_, _≤_, _<_, _^_}
+use Prim.Native.Nat.{_<_}
 use borrow.Author.Needs.{needs}
 use Rattle.lexicon.proofs.looking.give_compiled.Statement.{statement}
 use Rattle.lexicon.proofs.looking.give_compiled.Tie as tie

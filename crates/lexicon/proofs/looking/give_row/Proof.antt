@@ -3,10 +3,10 @@ use Rattle.lexicon.specs.Lookup.{found-short, found-fits}
 use Rattle.answers.specs.declared.Source.the-variants.{Addenda}
 use Rattle.answers.specs.Told.{accepted}
 use Rattle.addenda.specs.Addenda.{addenda, noAddendum}
-use lib.ListN.{length, getD}
-use mathlib.Core.Path.{_≡_, refl, sym, ap, _∙_}
+use lib.ListN.{getD}
+use mathlib.Core.Path.{ap, _∙_}
 use native.Mathlib.Omega.{arith}
-use Prim.Native.Nat.{ℕ, _*_, _≤_, _<_}
+use Prim.Native.Nat.{ℕ}
 use borrow.Author.Needs.{needs}
 use Rattle.lexicon.proofs.looking.give_row.Statement.{statement}
 use Rattle.lexicon.proofs.looking.give_row.Tie as tie

@@ -2,14 +2,14 @@
 use Rattle.lexicon.specs.Lookup.{found-many, found-short, found-fits}
 use Rattle.answers.specs.declared.Source.the-variants.{Compiled}
 use Rattle.answers.specs.Told.{accepted}
-use Rattle.compiled.specs.Entries.{numbersOf, isSpoken, phonesOf, length-spoken}
+use Rattle.compiled.specs.Entries.{isSpoken, phonesOf, length-spoken}
 use borrow.Author.Tests.{not-true, not-false}
 use lib.ListN.{length}
 use mathlib.Core.List.{List}
-use mathlib.Core.Bool.{true, false}
-use mathlib.Core.Path.{_≡_, refl, sym, ap, _∙_}
+use mathlib.Core.Bool.{true}
+use mathlib.Core.Path.{_≡_, sym, ap, _∙_}
 use native.Mathlib.Omega.{arith}
-use Prim.Native.Nat.{ℕ, _*_, _≤_, _<_}
+use Prim.Native.Nat.{ℕ}
 use borrow.Author.Needs.{needs}
 use Rattle.lexicon.proofs.looking.give_spoken.Statement.{statement}
 use Rattle.lexicon.proofs.looking.give_spoken.Tie as tie

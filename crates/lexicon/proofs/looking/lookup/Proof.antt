@@ -5,8 +5,8 @@ use Rattle.store.specs.Store.{isSound}
 use Rattle.texts.specs.Text.{isWord, word-short}
 use Rattle.texts.specs.Choice.{both-true}
 use borrow.Author.Tests.{not-true, not-false}
-use mathlib.Core.Bool.{true, false, _&&_}
-use mathlib.Core.Path.{_≡_, refl, sym, ap, _∙_}
+use mathlib.Core.Bool.{true, _&&_}
+use mathlib.Core.Path.{_≡_, sym, _∙_}
 use borrow.Author.Needs.{needs}
 use Rattle.lexicon.proofs.looking.lookup.Statement.{statement}
 use Rattle.lexicon.proofs.looking.lookup.Tie as tie

@@ -1,13 +1,12 @@
 -- `lexicon::looking::put_spoken` meets its contract: after i phones, out is what pasting i cells leaves. Assumes nothing.
 use Rattle.compiled.specs.Entries.{numbersOf, phonesOf as spokenOf, length-spoken, spoken-at, number-in, spoken-fits}
 use Rattle.cells.specs.Cells.{cellsOf, cell, cells-turn, cells-front}
-use Rattle.data.specs.Sections.{tablePhones, table-fits}
+use Rattle.data.specs.Sections.{tablePhones}
 use Rattle.records.specs.Records.{putRecord}
-use Rattle.records.specs.Fields.{u32At}
 use native.Mathlib.Nat.{zero-add}
 use lib.Seq.{paste, paste-zero}
-use lib.ListN.{length, getD, drop}
-use mathlib.Core.List.{List, [], _++_}
+use lib.ListN.{length, getD}
+use mathlib.Core.List.{List, []}
 use mathlib.Core.Path.{_≡_, refl, sym, ap, _∙_}
 use native.Mathlib.Omega.{arith}
 use Prim.Native.Nat.{ℕ, _+_, _-_, _*_, _≤_, _<_, zero-le}

@@ -1,13 +1,12 @@
 -- `lexicon::looking::runtime_in` meets its contract: room's front is the folded word, which the store is searched for. Assumes nothing.
 use Rattle.store.specs.Adding.{seek}
-use Rattle.store.specs.Store.{next, isWanted, used}
+use Rattle.store.specs.Store.{next, used}
 use Rattle.records.specs.Records.{take-front}
 use Rattle.texts.specs.Text.{folded}
 use lib.ListN.{length, take, length-map}
 use mathlib.Core.List.{List, map}
-use mathlib.Core.Bool.{true}
-use mathlib.Core.Path.{_≡_, refl, sym, ap, _∙_}
-use Prim.Native.Nat.{ℕ, _≤_, _<_}
+use mathlib.Core.Path.{_≡_, ap, _∙_}
+use Prim.Native.Nat.{ℕ}
 use borrow.Author.Needs.{needs}
 use Rattle.lexicon.proofs.looking.runtime_in.Statement.{statement}
 use Rattle.lexicon.proofs.looking.runtime_in.Tie as tie

@@ -2,20 +2,16 @@
 use Rattle.store.specs.Placed.{at, full-new, kept-new, full-known, kept-known}
 use Rattle.store.specs.Cut.{last-cut}
 use Rattle.store.specs.Result.{few, last-within}
-use Rattle.store.specs.Found.{Tells}
 use Rattle.store.specs.Sound.{Sound, sound}
-use Rattle.store.specs.Adding.{seek, cutOut, tied, isFull, kept, addedNew, entryFor}
-use Rattle.store.specs.Store.{next, last, used, slots, isWanted, isSound}
-use Rattle.slots.specs.Slot.{isFolded, fold-folded}
-use Rattle.texts.specs.Text.{folded}
+use Rattle.store.specs.Adding.{seek, kept, entryFor}
+use Rattle.store.specs.Store.{next, last, used, isWanted}
+use Rattle.slots.specs.Slot.{fold-folded}
 use lib.ListN.{length}
-use lib.Dec.{leb}
-use mathlib.Core.List.{List, map}
 use mathlib.Core.Logic.{_≢_}
-use mathlib.Core.Bool.{true, false, not}
-use mathlib.Core.Path.{_≡_, refl, sym, ap, _∙_, subst}
+use mathlib.Core.Bool.{false}
+use mathlib.Core.Path.{_≡_, sym, _∙_}
 use native.Mathlib.Omega.{arith}
-use Prim.Native.Nat.{ℕ, _+_, _*_, _≤_, _<_}
+use Prim.Native.Nat.{_≤_}
 use borrow.Author.Needs.{needs}
 use Rattle.store.proofs.adding.add.Statement.{statement}
 use Rattle.store.proofs.adding.add.Tie as tie

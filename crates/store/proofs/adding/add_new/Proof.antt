@@ -2,12 +2,11 @@
 use Rattle.store.specs.Adding.{addedNew}
 use Rattle.store.specs.Store.{used, slots}
 use borrow.Author.Tests.{le-leb, lt-leb}
-use lib.ListN.{length}
 use lib.Dec.{leb}
-use mathlib.Core.Bool.{true, false, not}
-use mathlib.Core.Path.{_≡_, refl, sym, ap, _∙_}
+use mathlib.Core.Bool.{true, false}
+use mathlib.Core.Path.{_≡_, _∙_}
 use native.Mathlib.Omega.{arith}
-use Prim.Native.Nat.{ℕ, _+_, _/_}
+use Prim.Native.Nat.{_+_}
 use borrow.Author.Needs.{needs}
 use Rattle.store.proofs.adding.add_new.Statement.{statement}
 use Rattle.store.proofs.adding.add_new.Tie as tie
