@@ -1,5 +1,8 @@
 // Cases in a text file, each a call with its arguments and what it must give back: read, run and
 // compared. Programs print what came of it. docs/CASES.md tells the format.
+mod entries;
+mod handed;
+mod many;
 mod read;
 mod run;
 

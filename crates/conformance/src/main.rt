@@ -1,7 +1,16 @@
-// Runs the files of cases that its arguments name: 01's cases that are not starred, and the edges of each
+// Runs the files of cases that its arguments name: 01's rehearsed cases and the edges of each
 // call, with the values that 01 gives.
+ghost use mathlib.Core.Path.{_≡_};
+ghost use lib.ListN.{length};
 use cases::Run;
 use libc::STDOUT_FILENO;
+
+// Zeros for what a line hands in and expects, and for what its call writes: three times the longest store.
+fn room_for_a_line() -> [u8; 196608]
+    ensures { λ r. ⌜ 196608 ≡ length r ⌝ }
+{
+    [0; 196608]
+}
 
 // A line of a file that failed.
 fn tell_failure(name: &[u8], line: u64) {
@@ -22,8 +31,8 @@ fn tell_passed(name: &[u8], passed: u64) {
 // Every line of a file of cases.
 fn run_lines(name: &[u8], file: &[u8]) {
     let mut regs = io::large_buffer();
-    let mut room = io::large_buffer();
-    let mut out = io::large_buffer();
+    let mut room = room_for_a_line();
+    let mut out = room_for_a_line();
     let mut run = cases::start();
     let mut left = file.len();
     while 0 < left {

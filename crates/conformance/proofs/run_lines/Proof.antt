@@ -7,7 +7,7 @@ use Rattle.conformance.proofs.run_lines.Statement.{statement}
 use Rattle.conformance.proofs.run_lines.Tie as tie
 
 abbrev Inv-loop : tie.InvT-loop
-Inv-loop name file regs₀ room₀ out₀ run₀ left₀ regs room out run left = (run .at ≤ length file) × (length regs ≡ 65536) × (length room ≡ 65536) × (length out ≡ 65536)
+Inv-loop name file regs₀ room₀ out₀ run₀ left₀ regs room out run left = (run .at ≤ length file) × (length regs ≡ 65536) × (length room ≡ 196608) × (length out ≡ 196608)
 
 abbrev μ-loop : tie.MeasureT-loop
 μ-loop name file regs₀ room₀ out₀ run₀ left₀ regs room out run left = left
@@ -15,11 +15,11 @@ abbrev μ-loop : tie.MeasureT-loop
 large-buffer-requires : tie.Need-large-buffer-requires Inv-loop μ-loop
 large-buffer-requires c κs = search needs
 
-large-buffer-requires-2 : tie.Need-large-buffer-requires-2 Inv-loop μ-loop
-large-buffer-requires-2 c κs = search needs
+room-for-a-line-requires : tie.Need-room-for-a-line-requires Inv-loop μ-loop
+room-for-a-line-requires c κs = search needs
 
-large-buffer-requires-3 : tie.Need-large-buffer-requires-3 Inv-loop μ-loop
-large-buffer-requires-3 c κs = search needs
+room-for-a-line-requires-2 : tie.Need-room-for-a-line-requires-2 Inv-loop μ-loop
+room-for-a-line-requires-2 c κs = search needs
 
 start-requires : tie.Need-start-requires Inv-loop μ-loop
 start-requires c κs = search needs
@@ -67,8 +67,8 @@ run-lines-spec =
     Inv-loop
     μ-loop
     large-buffer-requires
-    large-buffer-requires-2
-    large-buffer-requires-3
+    room-for-a-line-requires
+    room-for-a-line-requires-2
     start-requires
     loop-holds
     slice-aggregate-run-on

@@ -1,10 +1,10 @@
--- `cases::run::arguments` is safe and ends. Assumes nothing.
+-- `cases::handed::arguments` is safe and ends. Assumes nothing.
 use Prim.Native.Nat.{_-_, _≤_}
 use mathlib.Core.Path.{_≡_}
 use lib.ListN.{length}
 use borrow.Author.Needs.{needs}
-use Rattle.cases.proofs.run.arguments.Statement.{statement}
-use Rattle.cases.proofs.run.arguments.Tie as tie
+use Rattle.cases.proofs.handed.arguments.Statement.{statement}
+use Rattle.cases.proofs.handed.arguments.Tie as tie
 
 abbrev Inv-loop : tie.InvT-loop
 Inv-loop line n regs room₀ ends₀ end₀ k₀ room ends end k = (k ≤ 7) × (length room ≡ length room₀) × (length ends ≡ 8)
@@ -42,6 +42,9 @@ loop-again c = search needs
 array-write-ends-2 : tie.Need-array-write-ends-2 Inv-loop μ-loop
 array-write-ends-2 c = search needs
 
+has-arrow-requires : tie.Need-has-arrow-requires Inv-loop μ-loop
+has-arrow-requires c κs = search needs
+
 same-length-2 : tie.Need-same-length-2 Inv-loop μ-loop
 same-length-2 c = search needs
 
@@ -64,5 +67,6 @@ arguments-spec =
     loop-less
     loop-again
     array-write-ends-2
+    has-arrow-requires
     same-length-2
     returns-2)

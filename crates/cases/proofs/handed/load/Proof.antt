@@ -1,9 +1,9 @@
--- `cases::run::load` meets its contract. Assumes nothing.
+-- `cases::handed::load` meets its contract. Assumes nothing.
 use native.Mathlib.Omega.{arith}
 use lib.ListN.{length-take}
 use borrow.Author.Needs.{needs}
-use Rattle.cases.proofs.run.load.Statement.{statement}
-use Rattle.cases.proofs.run.load.Tie as tie
+use Rattle.cases.proofs.handed.load.Statement.{statement}
+use Rattle.cases.proofs.handed.load.Tie as tie
 
 returns : tie.Need-returns
 returns c = search needs

@@ -1,0 +1,88 @@
+// The calls of the lexicon and the store, each with its arguments from a line of cases.
+use crate::handed;
+use crate::handed::Given;
+
+// check_lexicon PHONES INDEX DATA -> REFUSAL KIND VALUE
+pub fn run_check_lexicon(line: &[u8], regs: &[u8], room: &mut [u8]) -> bool {
+    let given = handed::arguments(line, 3, regs, room);
+    if !given.ok {
+        return false;
+    }
+    let a = compiled::check_lexicon(
+        handed::argument(room, given, 0),
+        handed::argument(room, given, 1),
+        handed::argument(room, given, 2),
+    );
+    handed::agrees(answers::told_verdict(a), line, 5)
+}
+
+// new_store with its arguments read and its store loaded
+fn new_store_on(line: &[u8], regs: &[u8], room: &mut [u8], given: Given, store: &mut [u8]) -> bool {
+    let a = store::new_store(store);
+    if !handed::agrees(answers::told_done(a), line, 3) {
+        return false;
+    }
+    handed::as_told(store, line, 6, regs, room, given, 0)
+}
+
+// new_store STORE -> REFUSAL KIND VALUE STORE
+pub fn run_new_store(line: &[u8], regs: &[u8], room: &mut [u8], out: &mut [u8]) -> bool {
+    let given = handed::arguments(line, 1, regs, room);
+    if !given.ok {
+        return false;
+    }
+    let n = handed::load(out, handed::argument(room, given, 0));
+    new_store_on(line, regs, room, given, &mut out[..n])
+}
+
+// add_entry with its arguments read and its store loaded
+fn add_entry_on(line: &[u8], regs: &[u8], room: &mut [u8], given: Given, store: &mut [u8]) -> bool {
+    let a = lexicon::add_entry(
+        handed::argument(room, given, 0),
+        store,
+        handed::argument(room, given, 2),
+        handed::argument(room, given, 3),
+        handed::argument(room, given, 4),
+    );
+    if !handed::agrees(answers::told_done(a), line, 7) {
+        return false;
+    }
+    handed::as_told(store, line, 10, regs, room, given, 1)
+}
+
+// add_entry PHONES STORE WORD TAG CELLS -> REFUSAL KIND VALUE STORE
+pub fn run_add_entry(line: &[u8], regs: &[u8], room: &mut [u8], out: &mut [u8]) -> bool {
+    let given = handed::arguments(line, 5, regs, room);
+    if !given.ok {
+        return false;
+    }
+    let n = handed::load(out, handed::argument(room, given, 1));
+    add_entry_on(line, regs, room, given, &mut out[..n])
+}
+
+// lookup with its arguments read and its output loaded
+fn lookup_on(line: &[u8], regs: &[u8], room: &mut [u8], given: Given, out: &mut [u8]) -> bool {
+    let a = lexicon::lookup(
+        handed::argument(room, given, 0),
+        handed::argument(room, given, 1),
+        handed::argument(room, given, 2),
+        handed::argument(room, given, 3),
+        handed::argument(room, given, 4),
+        handed::argument(room, given, 5),
+        out,
+    );
+    if !handed::agrees(answers::told_looked(a), line, 9) {
+        return false;
+    }
+    handed::as_told(out, line, 12, regs, room, given, 6)
+}
+
+// lookup PHONES INDEX DATA STORE WORD TAG OUT -> REFUSAL KIND VALUE OUT
+pub fn run_lookup(line: &[u8], regs: &[u8], room: &mut [u8], out: &mut [u8]) -> bool {
+    let given = handed::arguments(line, 7, regs, room);
+    if !given.ok {
+        return false;
+    }
+    let n = handed::load(out, handed::argument(room, given, 6));
+    lookup_on(line, regs, room, given, &mut out[..n])
+}
