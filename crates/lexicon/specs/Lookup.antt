@@ -142,6 +142,6 @@ module _ (phones index dat store word tag : List ℕ) where
   -- lookup on a store's bytes is lookup on its entries
   pub lookup-on-entries : (out : List ℕ) → isLexicon phones index ≡ true → isSound store ≡ true → (isWord word && isWord tag) ≡ true
       → (lookup out ≡ toldFinding (find (entries store) phones index dat word (wantedTag tag)) out)
-        × (lookedUp out ≡ outFinding (find (entries store) phones index dat word (wantedTag tag)) out)
+      × (lookedUp out ≡ outFinding (find (entries store) phones index dat word (wantedTag tag)) out)
   unfolding lookup lookedUp
   lookup-on-entries out f s w = (rw (f, s, w), rw (f, s, w))
