@@ -23,7 +23,7 @@ pub fn first_or_any(tag: &[u8]) -> u8
 }
 
 // The tag that an entry gets.
-fn added_tag(tag: &[u8]) -> u8
+pub fn added_tag(tag: &[u8]) -> u8
     ensures { λ r. ⌜ r ≡ addedTag (now (tag .entry)) ⌝ }
 {
     if texts::same(tag, b"nil") {
@@ -33,7 +33,7 @@ fn added_tag(tag: &[u8]) -> u8
 }
 
 // Whether a phone may be added.
-fn may_add(table: &[u8], phone: &[u8]) -> bool
+pub fn may_add(table: &[u8], phone: &[u8]) -> bool
     requires { ⌜ isPhoneTable (now table) ≡ true ⌝ }
     ensures { λ r. ⌜ r ≡ mayAdd (now (table .entry)) (now (phone .entry)) ⌝ }
 {

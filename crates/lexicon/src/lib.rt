@@ -3,4 +3,7 @@ mod adding;
 mod looking;
 
 pub use adding::add_entry;
+pub use adding::add_folded;
+pub use adding::added_tag;
+pub use adding::may_add;
 pub use looking::lookup;

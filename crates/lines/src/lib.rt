@@ -1,6 +1,8 @@
 // The lines of a text of entries (01, Lookup: Adding): where a line ends, what is before a "#", fields
 // parted by blanks, quote marks.
 ghost use mathlib.Core.Path.{_≡_};
+ghost use Prim.Native.Nat.{_≤_, _<_};
+ghost use lib.ListN.{length, drop};
 ghost use Rattle.texts.specs.Lists.{place};
 ghost use Rattle.texts.specs.Text.{blank};
 ghost use Rattle.lines.specs.Lines.{firstLine, afterLine, content as contentOf, ink, inked as inkedOf, field as fieldOf, afterField, isEmpty, unquoted, openEnd, stripped};
@@ -86,6 +88,28 @@ pub fn after_field(s: &[u8]) -> &[u8]
 {
     let t = inked(s);
     records::tail(t, find_blank(t))
+}
+
+// Where the first field from `at` on ends.
+pub fn field_end(s: &[u8], at: usize) -> usize
+    requires { ⌜ at ≤ length (now s) ⌝ }
+    ensures { λ r. ⌜ (drop r (now (s .entry)) ≡ afterField (drop at (now (s .entry)))) × (r ≤ length (now (s .entry))) ⌝ }
+{
+    let rest = records::tail(s, at);
+    let n = find_ink(rest);
+    at + n + find_blank(records::tail(rest, n))
+}
+
+// Where the line behind the first from `at` on begins.
+pub fn line_end(text: &[u8], at: usize) -> usize
+    requires { ⌜ at < length (now text) ⌝ }
+    ensures { λ r. ⌜ (drop r (now (text .entry)) ≡ afterLine (drop at (now (text .entry)))) × (at < r) × (r ≤ length (now (text .entry))) ⌝ }
+{
+    let n = texts::find(records::tail(text, at), 10);
+    if at + n < text.len() {
+        return at + n + 1;
+    }
+    text.len()
 }
 
 // The place of the first byte that is no quote mark.
