@@ -1,2 +1,5 @@
 pub mod Phones
 pub mod Line
+pub mod Call
+pub mod Turns
+pub mod Accepted

@@ -36,7 +36,7 @@ unfolding ascii every
 fold-ascii [] h = refl
 fold-ascii (x ∷ xs) h = let b = both-true (low x) (every low xs) h in rw (fold-low x (b .0)) (fold-ascii xs (b .1))
 
-fold-word : (w : List ℕ) → isWord w ≡ true → isWord (map folded w) ≡ true
+pub fold-word : (w : List ℕ) → isWord w ≡ true → isWord (map folded w) ≡ true
 unfolding isWord
 fold-word w h = let b = both-true (leb (length w) 47) (ascii w) h in rw (length-map w folded, b .0) (fold-ascii w (b .1))
 
@@ -46,7 +46,7 @@ head-low [] h = refl
 head-low (x ∷ xs) h = both-true (low x) (every low xs) h .0
 
 -- the tag that an entry gets is below 128
-tag-low : (tag : List ℕ) → isWord tag ≡ true → low (addedTag tag) ≡ true
+pub tag-low : (tag : List ℕ) → isWord tag ≡ true → low (addedTag tag) ≡ true
 unfolding addedTag isWord low
 tag-low tag h = cases (same tag (bytes "nil")) (λ e. rw e) (λ e. rw e (head-low tag (both-true (leb (length tag) 47) (ascii tag) h .1)))
 

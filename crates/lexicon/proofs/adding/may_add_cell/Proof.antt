@@ -1,9 +1,9 @@
 -- `lexicon::adding::may_add_cell` meets its contract: the cell's length first, then its text. Assumes nothing.
 use Rattle.lexicon.specs.Adding.{mayAdd, mayAddCell}
-use Rattle.cells.specs.Cells.{text, shortCell, phone-at}
+use Rattle.cells.specs.Cells.{shortCell, phone-at}
 use Rattle.records.specs.Records.{recordAt, byte-of}
 use borrow.Author.Tests.{le-leb, lt-leb}
-use lib.ListN.{length, getD}
+use lib.ListN.{getD}
 use mathlib.Core.List.{List}
 use mathlib.Core.Path.{_≡_, ap, _∙_}
 use native.Mathlib.Omega.{arith}
