@@ -31,9 +31,6 @@ use calls::{new_store, predict, split_stress, syllabify};
 use run::{Compared, Limit, Runner};
 use std::process::ExitCode;
 
-/// Whether the library exports add_entries yet; true compares and records it like the others.
-const ADD_ENTRIES: bool = false;
-
 const USAGE: &str =
     "usage: oracle [--calls N | --seconds N] [--seed N] [--record FOLDER --count N]";
 const DIFFERENT: u8 = 1;
@@ -64,10 +61,8 @@ fn main() -> ExitCode {
         Box::new(Runner::new(lookup::Lookup::new(), seed)),
         Box::new(Runner::new(new_store::NewStore, seed)),
         Box::new(Runner::new(add_entry::AddEntry::new(), seed)),
+        Box::new(Runner::new(add_entries::AddEntries::new(), seed)),
     ];
-    if ADD_ENTRIES {
-        calls.push(Box::new(Runner::new(add_entries::AddEntries::new(), seed)));
-    }
     if let Some(folder) = &arguments.record {
         return match record::write(&calls, folder, seed, arguments.count) {
             Ok(()) => ExitCode::SUCCESS,

@@ -57,13 +57,19 @@ fn parts(head: &str, lines: &[String]) -> Vec<String> {
 
 /// A case: the call, and what the original answers.
 pub fn case(shown: &str, expected: &Expected) -> String {
+    case_with_errors(shown, expected, &[])
+}
+
+/// The same of a call for which the original has errors: these refusals.
+pub fn case_with_errors(shown: &str, expected: &Expected, errors: &[u32]) -> String {
     let outcome = expected.outcome.as_ref().expect("the original answers");
     let answer = outcome.answer;
+    let refusal = answer.refusal;
     assert!(
-        expected.asked && answer.refusal == 0,
-        "only accepted cases are recorded"
+        expected.asked && (refusal == 0 || errors.contains(&refusal)),
+        "only what the original answers is recorded"
     );
-    format!("{shown} -> 0 {} {}", answer.kind, answer.value)
+    format!("{shown} -> {refusal} {} {}", answer.kind, answer.value)
 }
 
 /// A case with an output, which is written out if the call altered it.

@@ -60,6 +60,42 @@ pub fn run_add_entry(line: &[u8], regs: &[u8], room: &mut [u8], out: &mut [u8]) 
     add_entry_on(line, regs, room, given, &mut out[..n])
 }
 
+// add_entries with its arguments read, and its store and spare loaded
+fn add_entries_on(
+    line: &[u8],
+    regs: &[u8],
+    room: &mut [u8],
+    given: Given,
+    store: &mut [u8],
+    spare: &mut [u8],
+) -> bool {
+    let a = addtext::add_entries(
+        handed::argument(room, given, 0),
+        store,
+        spare,
+        handed::argument(room, given, 3),
+    );
+    if !handed::agrees(answers::told_lines(a), line, 6) {
+        return false;
+    }
+    if !handed::as_told(store, line, 9, regs, room, given, 1) {
+        return false;
+    }
+    handed::as_told(spare, line, 10, regs, room, given, 2)
+}
+
+// add_entries PHONES STORE SPARE TEXT -> REFUSAL KIND VALUE STORE SPARE
+pub fn run_add_entries(line: &[u8], regs: &[u8], room: &mut [u8], out: &mut [u8]) -> bool {
+    let given = handed::arguments(line, 4, regs, room);
+    if !given.ok {
+        return false;
+    }
+    let n = handed::load(out, handed::argument(room, given, 1));
+    let mut spare = [0u8; 66048];
+    let m = handed::load(&mut spare, handed::argument(room, given, 2));
+    add_entries_on(line, regs, room, given, &mut out[..n], &mut spare[..m])
+}
+
 // lookup with its arguments read and its output loaded
 fn lookup_on(line: &[u8], regs: &[u8], room: &mut [u8], given: Given, out: &mut [u8]) -> bool {
     let a = lexicon::lookup(

@@ -147,6 +147,9 @@ fn run_entries(line: &[u8], regs: &[u8], room: &mut [u8], out: &mut [u8]) -> boo
     if texts::same(name, b"add_entry") {
         return entries::run_add_entry(line, regs, room, out);
     }
+    if texts::same(name, b"add_entries") {
+        return entries::run_add_entries(line, regs, room, out);
+    }
     if texts::same(name, b"damage") {
         return many::run_damage(line, regs, room, out);
     }

@@ -5,11 +5,11 @@ ghost use lib.ListN.{length};
 use cases::Run;
 use libc::STDOUT_FILENO;
 
-// Zeros for what a line hands in and expects, and for what its call writes: three times the longest store.
-fn room_for_a_line() -> [u8; 196608]
-    ensures { λ r. ⌜ 196608 ≡ length r ⌝ }
+// Zeros for what a line hands in and expects, and for what its call writes: four times the longest store.
+fn room_for_a_line() -> [u8; 262144]
+    ensures { λ r. ⌜ 262144 ≡ length r ⌝ }
 {
-    [0; 196608]
+    [0; 262144]
 }
 
 // A line of a file that failed.

@@ -12,6 +12,7 @@ ghost use Rattle.store.specs.Store.{newStore, newBytes};
 ghost use Rattle.compiled.specs.Call.{checkLexicon};
 ghost use Rattle.lexicon.specs.Lookup.{lookup, lookedUp};
 ghost use Rattle.lexicon.specs.Adding.{addEntry, storeAfter};
+ghost use Rattle.addtext.specs.Call.{addEntries, storeAfter as storeBehind, spareAfter as spareBehind};
 use answers::Answer;
 
 // lex.phones, lex.index, lex.data
@@ -93,6 +94,21 @@ pub extern "C" fn pronouncer_add_entry(
     ensures { λ _. ⌜ now (store .exit) ≡ storeAfter (now (table .entry)) (now (store .entry)) (now (word .entry)) (now (tag .entry)) (now (phones .entry)) ⌝ }
 {
     answers::told_done(lexicon::add_entry(table, store, word, tag, phones))
+}
+
+// lex.phones, a store, a spare, a text
+#[no_mangle]
+pub extern "C" fn pronouncer_add_entries(
+    table: &[u8],
+    store: &mut [u8],
+    spare: &mut [u8],
+    text: &[u8],
+) -> Answer
+    ensures { λ r. ⌜ r ≡ addEntries (now (table .entry)) (now (store .entry)) (now (spare .entry)) (now (text .entry)) ⌝ }
+    ensures { λ _. ⌜ now (store .exit) ≡ storeBehind (now (table .entry)) (now (store .entry)) (now (spare .entry)) (now (text .entry)) ⌝ }
+    ensures { λ _. ⌜ now (spare .exit) ≡ spareBehind (now (table .entry)) (now (store .entry)) (now (spare .entry)) (now (text .entry)) ⌝ }
+{
+    answers::told_lines(addtext::add_entries(table, store, spare, text))
 }
 
 // Whether a phone's text is a vowel: `kind` 1 or 0. Not one of the eleven calls.

@@ -12,7 +12,7 @@ use crate::notation;
 use crate::ours::{self, Answer};
 use crate::phones::Phones;
 use crate::random::Random;
-use crate::record::case;
+use crate::record::case_with_errors;
 use crate::scene::Scene;
 use crate::shrink::shorter;
 use crate::store_shapes;
@@ -23,6 +23,21 @@ use std::rc::Rc;
 
 /// How many texts a lexicon and its store serve.
 const TEXTS: usize = 30;
+/// The refusals that are errors of the original: a malformed line, an unknown phone.
+const ERRORS: [u32; 2] = [4, 5];
+/// Lines that are no entries; a text stops there.
+const FAULTY: [&[u8]; 10] = [
+    b":",
+    b" : k",
+    b"::",
+    b"a",
+    b"a # : k",
+    b"a #: k",
+    b"\"a\"",
+    b"\"a # b\" : k",
+    b"\x1c",
+    b"a\x1cn\x0bk",
+];
 
 #[derive(Clone)]
 pub struct Input {
@@ -56,7 +71,7 @@ impl Call for AddEntries {
     type Input = Input;
     const NAME: &'static str = "add_entries";
     const SHARE: usize = 15;
-    const SHARE_RECORDED: usize = 12;
+    const SHARE_RECORDED: usize = 20;
     const ANSWERS: &'static [&'static str] = &[
         "lines taken 0",
         "lines taken 1",
@@ -76,9 +91,13 @@ impl Call for AddEntries {
         "3: long word",
         "3: long tag",
         "4: no colon",
+        "4: a colon behind '#' alone",
         "4: no word before the colon",
+        "4: byte 28 alone",
         "5: phone in no table",
         "5: phone over 15 bytes",
+        "5: colon in a phone",
+        "5: byte 28 in a phone",
         "7: 25 phones",
         "8: full before the text",
         "8: full by the lines before",
@@ -92,18 +111,22 @@ impl Call for AddEntries {
         "last line without its end",
         "CR at a line's end",
         "CR between fields",
+        "tab between fields",
         "bytes 11 and 12",
-        "byte 28, no blank",
+        "byte 28 in a word",
+        "byte 28 in a tag",
         "no tag",
         "tag 'nil'",
         "third field",
         "quotes off a word",
         "word of quotes alone",
         "quote inside a word",
+        "quote in a tag",
         "word of 47 bytes in quotes",
         "capital letter",
         "no phones",
         "24 phones",
+        "colon in a phone",
         "key of an earlier line",
         "key of the store",
         "new: takes the last unused slot",
@@ -294,14 +317,19 @@ impl Call for AddEntries {
                 let input = self.to_record(random, &scene);
                 let expected = self.expected(&input);
                 let outcome = expected.outcome.as_ref().expect("the original answers");
-                let after = &outcome.output[..scene.store.len()];
-                let spare = notation::bytes(&input.spare);
-                let shown = line(&format!("$0 ${at} {spare}"), &input.text);
+                let (store, spare) = outcome.output.split_at(scene.store.len());
+                let handed = notation::bytes(&input.spare);
+                let shown = line(&format!("$0 ${at} {handed}"), &input.text);
+                let case = case_with_errors(&shown, &expected, &ERRORS);
+                if outcome.answer.refusal != 0 || store == scene.store {
+                    lines.push(format!("{case} = {}", notation::store(spare)));
+                    continue;
+                }
                 // the store at exit is the next case's store
                 at = 3 - at;
-                lines.push(format!("${at} {}", notation::store(after)));
-                lines.push(format!("{} ${at} ${at}", case(&shown, &expected)));
-                scene = scene.with_store(after.to_vec());
+                lines.push(format!("${at} {}", notation::store(store)));
+                lines.push(format!("{case} ${at} ${at}"));
+                scene = scene.with_store(store.to_vec());
             }
         }
         lines
@@ -335,6 +363,7 @@ impl AddEntries {
         let mut text = vec![];
         for _ in 0..random.weighted(&[1, 4, 4, 3, 2, 1, 1]) {
             match random.weighted(&[20, 1, 2]) {
+                _ if random.once_in(4 * faulty) => text.extend_from_slice(random.pick(&FAULTY)),
                 0 => text.extend(self.entry(random, scene, faulty)),
                 1 => text.extend(blanks(random, 0)),
                 _ => {
@@ -371,8 +400,7 @@ impl AddEntries {
             2 => random.between(5, 24),
             _ => 24,
         };
-        let word = &self.words[random.below(self.words.len())];
-        let mut word = words::recased(random, word);
+        let (mut word, tag) = self.key(random, scene);
         match random.below(12) {
             0 | 1 => word = [b"\"", &word[..], b"\""].concat(),
             2 => word = [b"\"\"", &word[..]].concat(),
@@ -384,9 +412,7 @@ impl AddEntries {
             word.push(b'"');
         }
         let mut fields = vec![word];
-        if random.once_in(2) {
-            fields.push(words::tag(random));
-        }
+        fields.extend(tag);
         if random.once_in(8) {
             fields.push(random.pick(&[&b"x"[..], b"nil", b"\x1c"]).to_vec());
         }
@@ -416,12 +442,33 @@ impl AddEntries {
         if random.once_in(8) {
             line.extend_from_slice(b"# : zz");
         }
+        if random.once_in(6) {
+            let at = random.below(line.len() + 1);
+            line.insert(at, random.pick_byte(b"::\"\"\x1c\x1c\x0b\r\t#"));
+        }
         // the words and names may hold an end of a line, or a high byte in a tag
         line.retain(|b| *b != b'\n' && *b < 128);
         line
     }
 
-    /// An accepted text.
+    /// A word and its tag, if it has one; often an entry's of the store, most often if that is full.
+    fn key(&self, random: &mut Random, scene: &Scene) -> (Vec<u8>, Option<Vec<u8>>) {
+        let entries = scene.entries();
+        let known = match entries.len() {
+            0 => 0,
+            count if count == stores::room(&scene.store) => 3,
+            _ => 1,
+        };
+        if random.weighted(&[known, 2]) == 0 {
+            let entry = &entries[random.below(entries.len())].entry;
+            return (words::recased(random, &entry.word), Some(vec![entry.tag]));
+        }
+        let word = &self.words[random.below(self.words.len())];
+        let word = words::recased(random, word);
+        (word, random.once_in(2).then(|| words::tag(random)))
+    }
+
+    /// A text that is accepted, or stops at an error of the original; few take no line.
     fn to_record(&self, random: &mut Random, scene: &Rc<Scene>) -> Input {
         let mut own = AddEntries::new();
         own.words = vec![
@@ -430,14 +477,23 @@ impl AddEntries {
             b"it's".to_vec(),
             b"Z".to_vec(),
         ];
+        let wanted = random.weighted(&[14, 5, 1]);
         loop {
             let input = Input {
                 scene: scene.clone(),
                 spare: vec![random.byte(); scene.store.len()],
-                text: own.text(random, scene, 1_000),
+                text: own.text(random, scene, 12),
             };
-            let accepted = refusal(&input, &mut vec![]) == 0;
-            if accepted && input.text.len() < 200 && take(&input, &mut vec![]).fault.is_none() {
+            if input.text.len() >= 200 || refusal(&input, &mut vec![]) != 0 {
+                continue;
+            }
+            let taken = take(&input, &mut vec![]);
+            let is_wanted = match taken.fault {
+                None if taken.keys.is_empty() => wanted == 2,
+                None => wanted == 0,
+                Some(fault) => wanted == 1 && ERRORS.contains(&fault.refusal),
+            };
+            if is_wanted {
                 return input;
             }
         }

@@ -7,7 +7,7 @@ use Rattle.conformance.proofs.run_lines.Statement.{statement}
 use Rattle.conformance.proofs.run_lines.Tie as tie
 
 abbrev Inv-loop : tie.InvT-loop
-Inv-loop name file regs₀ room₀ out₀ run₀ left₀ regs room out run left = (run .at ≤ length file) × (length regs ≡ 65536) × (length room ≡ 196608) × (length out ≡ 196608)
+Inv-loop name file regs₀ room₀ out₀ run₀ left₀ regs room out run left = (run .at ≤ length file) × (length regs ≡ 65536) × (length room ≡ 262144) × (length out ≡ 262144)
 
 abbrev μ-loop : tie.MeasureT-loop
 μ-loop name file regs₀ room₀ out₀ run₀ left₀ regs room out run left = left

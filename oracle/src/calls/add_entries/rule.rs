@@ -63,6 +63,12 @@ pub fn take(input: &Input, met: &mut Vec<&'static str>) -> Taken {
             Line::Nothing => 0,
             Line::NoColon => {
                 met.push("4: no colon");
+                if line.contains(&b':') {
+                    met.push("4: a colon behind '#' alone");
+                }
+                if line.trim_ascii() == b"\x1c" {
+                    met.push("4: byte 28 alone");
+                }
                 4
             }
             Line::NoWord => {
@@ -132,6 +138,8 @@ fn faulty(input: &Input, fields: &Fields, is_full: bool, met: &mut Vec<&'static 
     if let Some(phone) = fields.phones.iter().find(|phone| unknown(phone)) {
         add("5: phone in no table", phone.len() < 16);
         add("5: phone over 15 bytes", phone.len() > 15);
+        add("5: colon in a phone", phone.contains(&b':'));
+        add("5: byte 28 in a phone", phone.contains(&28));
         return 5;
     }
     if fields.phones.len() > MOST_PHONES {
@@ -226,14 +234,17 @@ pub fn features(input: &Input, taken: &Taken) -> Vec<&'static str> {
         let quoted = fields.first.len() > fields.word.len();
         add("'#' behind an entry", comment);
         add("CR between fields", trimmed.contains(&b'\r'));
+        add("tab between fields", trimmed.contains(&b'\t'));
         add("bytes 11 and 12", line.contains(&11) && line.contains(&12));
-        add("byte 28, no blank", line.contains(&28));
+        add("byte 28 in a word", fields.word.contains(&28));
+        add("byte 28 in a tag", fields.tag.contains(&28));
         add("no tag", fields.count == 1);
         add("tag 'nil'", fields.tag == b"nil");
         add("third field", fields.count > 2);
         add("quotes off a word", quoted && !fields.word.is_empty());
         add("word of quotes alone", fields.word.is_empty());
         add("quote inside a word", inner);
+        add("quote in a tag", fields.tag.contains(&b'"'));
         add(
             "word of 47 bytes in quotes",
             quoted && fields.word.len() == words::LONGEST,
@@ -244,6 +255,8 @@ pub fn features(input: &Input, taken: &Taken) -> Vec<&'static str> {
         );
         add("no phones", fields.phones.is_empty());
         add("24 phones", fields.phones.len() == MOST_PHONES);
+        let mut phones = fields.phones.iter();
+        add("colon in a phone", phones.any(|p| p.contains(&b':')));
     }
     met
 }

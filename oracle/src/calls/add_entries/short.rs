@@ -24,7 +24,7 @@ fn input(scene: &Rc<Scene>, text: &[u8]) -> Input {
     }
 }
 
-/// Every text of up to six bytes over those that the rule tells apart.
+/// Every text of up to five bytes over those that the rule tells apart.
 fn short_texts() -> Vec<Input> {
     let lexicon = Rc::new(Lexicon::of::<&str>(&["a"], &[]));
     let scene = Rc::new(Scene::new(&lexicon, stores::new(2, 0x22)));
@@ -90,8 +90,16 @@ fn edges() -> Vec<Input> {
         "a\"b : k".into(),
         "a nil : k\na NIL: k\na nill:k".into(),
         "a # : k".into(),
+        "a#n : k".into(),
+        "\"a#b\" : k".into(),
+        "\x1c".into(),
         "a:b:c".into(),
+        "a::k".into(),
+        "::k".into(),
+        "a: : k".into(),
         "a: h#".into(),
+        "a: \"k\"".into(),
+        "a:\tk\tt\n\tb\tn\t:".into(),
         "a: k # t".into(),
         "\n\n \t\n#x\na:zz".into(),
         format!("a:{}", k(24)),
@@ -122,6 +130,15 @@ fn edges() -> Vec<Input> {
                 ..input(&scene, b"a:k")
             });
         }
+    }
+    // phones that a line can name, and one that it cannot
+    let odd = Rc::new(Lexicon::of(
+        &["b:c", ":", "h", "h#", "\"k\"", "k\x1ct"],
+        &[],
+    ));
+    let scene = Rc::new(Scene::new(&odd, store_edges::good()));
+    for text in &texts {
+        inputs.push(input(&scene, text.as_bytes()));
     }
     for lexicon in lexicon_edges::limits() {
         let table = Lexicon::of_table(lexicon.sections.phones.clone());
