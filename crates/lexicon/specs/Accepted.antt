@@ -85,6 +85,21 @@ module _ (table store word tag phones : List ℕ) where
       (λ t₂. refusal-never 2 (omega arith) (rw (t₁, t₂) at h)))
       (λ t₁. refusal-never 1 (omega arith) (rw t₁ at h))
 
+  -- an answer without a refusal has nothing else to tell
+  pub accepted-is : addEntry table store word tag phones .refusal ≡ 0 → addEntry table store word tag phones ≡ accepted 0 0
+  unfolding addEntry
+  accepted-is h =
+      cases (isPhoneTable table) (λ t₁. cases (isSound store) (λ t₂. cases (isWord word && isWord tag && asciiPhones phones) (λ t₃.
+      cases (mayAddAll table phones) (λ t₅. cases (ltb 24 (length phones / 16))
+      (λ t₇. absurd (omega (arith, (rw (t₁, t₂, t₃, t₅, t₇) at h))))
+      (λ t₇. cases (isFull store (newEntry word tag phones))
+      (λ t₈. absurd (omega (arith, (rw (t₁, t₂, t₃, t₅, t₇, t₈) at h))))
+      (λ t₈. rw (t₁, t₂, t₃, t₅, t₇, t₈))))
+      (λ t₅. absurd (omega (arith, (rw (t₁, t₂, t₃, t₅) at h)))))
+      (λ t₃. absurd (omega (arith, (rw (t₁, t₂, t₃) at h)))))
+      (λ t₂. absurd (omega (arith, (rw (t₁, t₂) at h)))))
+      (λ t₁. absurd (omega (arith, (rw t₁ at h))))
+
   -- the law
   pub add-law : addEntry table store word tag phones ≡ accepted 0 0 → Added store (storeAfter table store word tag phones) (newEntry word tag phones)
   unfolding storeAfter

@@ -124,7 +124,7 @@ fn give_compiled(
 }
 
 // The word in a sound store's entries, the addenda or the compiled entries.
-fn find(
+pub fn find(
     phones: &[u8],
     index: &[u8],
     dat: &[u8],

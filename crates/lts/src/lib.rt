@@ -134,7 +134,7 @@ pub fn spell(phones: &[u8], index: &[u8], model: &[u8], word: &[u8], list: &mut 
 }
 
 // The phones of a word, by way of a list of 94 cells.
-fn spell_out(
+pub fn spell_out(
     phones: &[u8],
     index: &[u8],
     model: &[u8],

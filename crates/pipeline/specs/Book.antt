@@ -1,0 +1,50 @@
+-- 01, Store and sheet: the plain book beside a list of calls, fed only the calls and whether each was refused.
+-- Assumes nothing.
+use Prim.Native.Nat.{ℕ}
+use mathlib.Core.Bool.{Bool}
+use mathlib.Core.List.{List, [], _∷_, _++_}
+use Rattle.texts.specs.Choice.{if_then_else_}
+use Rattle.slots.specs.Slot.{Entry}
+use Rattle.store.specs.Adding.{adding}
+use Rattle.lexicon.specs.Adding.{newEntry}
+use Rattle.lines.specs.Lines.{lines}
+use Rattle.addtext.specs.Call.{lineEntries, addingAll}
+use Rattle.utterance.specs.Tree.{Word}
+use Rattle.pipeline.specs.Pronounced.{Sections, Spoken, barred, phones, pronounced, said}
+use Rattle.pipeline.specs.Calls.{Call, makeSheet, addsEntry, addsText, saysWord, Made, State, step, isRefused}
+
+-- entries and words, at first none
+pub record Book : Type 0 where
+  pub entries : List Entry
+  pub words : List Word
+
+unfoldable pub empty : Book
+empty = record { entries = []; words = [] }
+
+-- a call, and whether it was refused
+pub record Heard : Type 0 where
+  pub call : Call
+  pub refused : Bool
+
+module _ (c : Sections) where
+  -- the word that was said
+  abbrev pub onSpoken : List ℕ → Spoken → List Word
+  onSpoken word (barred n) = []
+  onSpoken word (phones ps) = said word ps ∷ []
+
+  -- what an accepted call changes
+  unfoldable pub accepts : Call → Book → Book
+  accepts makeSheet k = record { entries = k .entries; words = [] }
+  accepts (addsEntry word tag cells) k = record { entries = adding (newEntry word tag cells) (k .entries); words = k .words }
+  accepts (addsText text) k = record { entries = addingAll (lineEntries (lines text)) (k .entries); words = k .words }
+  accepts (saysWord word tag) k = record { entries = k .entries; words = k .words ++ onSpoken word (pronounced c (k .entries) word tag) }
+
+  -- a refused call changes nothing
+  unfoldable pub keeps : List Heard → Book → Book
+  keeps [] k = k
+  keeps (h ∷ hs) k = keeps hs (if h .refused then k else accepts (h .call) k)
+
+  -- what the book hears of a list of calls
+  unfoldable pub hears : List Made → State → List Heard
+  hears [] s = []
+  hears (m ∷ ms) s = record { call = m .call; refused = isRefused c (m .call) (m .spare) s } ∷ hears ms (step c (m .call) (m .spare) s)

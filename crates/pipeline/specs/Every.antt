@@ -1,0 +1,148 @@
+-- 01, demand 3: one claim about every list of calls. The sheet that a list leaves reads as the book of what was accepted.
+-- Each call keeps store and sheet sound and in step with the book, and a list of calls is its calls in turn.
+-- Assumes nothing.
+use Prim.Native.Nat.{ℕ, _+_}
+use native.Mathlib.Omega.{arith}
+use mathlib.Core.Path.{_≡_, refl, sym, ap, _∙_, subst}
+use mathlib.Core.Bool.{true, _&&_}
+use mathlib.Core.List.{List, [], _∷_, _++_, append-nil}
+use lib.Dec.{eqb}
+use lib.ListN.{length}
+use borrow.Author.Tests.{eqb-true, leb-false}
+use Rattle.texts.specs.Choice.{if_then_else_, both-true, cases}
+use Rattle.texts.specs.Text.{isWord}
+use Rattle.slots.specs.Slot.{Entry}
+use Rattle.store.specs.Store.{entries, isStoreLength, isSound as isStore, newStore, newBytes as newStoreBytes}
+use Rattle.store.specs.Sound.{Sound as SoundStore}
+use Rattle.store.specs.Adding.{adding}
+use Rattle.store.specs.Fresh.{fresh as freshStore, fresh-sound, fresh-entries}
+use Rattle.lts.specs.Letters.{isTrees}
+use Rattle.compiled.specs.Call.{isLexicon}
+use Rattle.lexicon.specs.Adding.{newEntry, addEntry, storeAfter}
+use Rattle.lexicon.specs.Accepted.{add-law, accepted-is}
+use Rattle.lines.specs.Lines.{lines}
+use Rattle.addtext.specs.Call.{lineEntries, addingAll, addEntries, storeAfter as storeAfterText}
+use Rattle.addtext.specs.Accepted.{text-law}
+use Rattle.utterance.specs.Tree.{Word}
+use Rattle.utterance.specs.Sheet.{used, items, reading, isSheetLength, isSound as isSheet, newSheet}
+use Rattle.utterance.specs.Sound.{Sound}
+use Rattle.utterance.specs.Append.{size}
+use Rattle.utterance.specs.Appended.{append-law, append-reads}
+use Rattle.utterance.specs.NewSheet.{new-sound, new-reads}
+use Rattle.answers.specs.declared.Answer.{Answer}
+use Rattle.pipeline.specs.Pronounced.{Sections, Spoken, barred, phones, pronounced, said}
+use Rattle.pipeline.specs.SayWord.{isCrowded, onSpoken as onSpokenAnswer, withSpoken, sayWord, sheetAfter}
+use Rattle.pipeline.specs.Calls.{Call, makeSheet, addsEntry, addsText, saysWord, Made, State, answer, step, isRefused, leaves, fresh}
+use Rattle.pipeline.specs.Book.{Book, empty, onSpoken, accepts, keeps, hears}
+use Rattle.pipeline.specs.Sources.{entries-fit}
+use Rattle.pipeline.specs.Fits.{phones-said, pronounced-fits}
+use Rattle.pipeline.specs.WellCut.{WellCut, said-cut}
+use Rattle.pipeline.specs.Claim.{Each, Tells, tells}
+
+each-last : (P : Word → Type 0) (ws : List Word) (w : Word) → Each P ws → P w → Each P (ws ++ (w ∷ []))
+each-last P [] w h k = (k, tt)
+each-last P (v ∷ ws) w h k = (h .0, each-last P ws w (h .1) k)
+
+-- store and sheet are sound and in step with the book
+pub record Agrees (s : State) (k : Book) : Type 0 where
+  pub store : SoundStore (s .store)
+  pub entries : entries (s .store) ≡ k .entries
+  pub sheet : Sound (s .sheet)
+  pub words : reading (s .sheet) ≡ k .words
+  pub cut : Each WellCut (k .words)
+
+-- what the tests of say word say where it is accepted
+pub record Passed (c : Sections) (store sheet word tag : List ℕ) : Type 0 where
+  pub lexicon : isLexicon (c .lexPhones) (c .lexIndex) ≡ true
+  pub trees : isTrees (c .ltsPhones) (c .ltsIndex) (c .ltsModel) ≡ true
+  pub text : isWord word ≡ true
+  pub answer : sayWord c store sheet word tag ≡ onSpokenAnswer c store sheet word tag (pronounced c (entries store) word tag)
+
+passed : (c : Sections) (store sheet word tag : List ℕ) → sayWord c store sheet word tag .refusal ≡ 0 → Passed c store sheet word tag
+unfolding sayWord
+passed c store sheet word tag h =
+    cases (isLexicon (c .lexPhones) (c .lexIndex) && isTrees (c .ltsPhones) (c .ltsIndex) (c .ltsModel)) (λ t₁. cases (isStore store && isSheet sheet) (λ t₂. cases (isWord word && isWord tag)
+    (λ t₃. let l = both-true (isLexicon (c .lexPhones) (c .lexIndex)) (isTrees (c .ltsPhones) (c .ltsIndex) (c .ltsModel)) t₁ in
+    record { lexicon = l .0; trees = l .1; text = both-true (isWord word) (isWord tag) t₃ .0; answer = rw (t₁, t₂, t₃) })
+    (λ t₃. absurd (omega (arith, (rw (t₁, t₂, t₃) at h)))))
+    (λ t₂. absurd (omega (arith, (rw (t₁, t₂) at h)))))
+    (λ t₁. absurd (omega (arith, (rw t₁ at h))))
+
+module _ (c : Sections) (s : State) (k : Book) (a : Agrees s k) where
+  -- what a call must leave
+  abbrev After : Call → List ℕ → Type 0
+  After call spare = Agrees (step c call spare s) (if isRefused c call spare s then k else accepts c call k)
+
+  makes : (spare : List ℕ) → After makeSheet spare
+  unfolding answer step accepts newSheet
+  makes spare =
+      let l = a .sheet .size in
+      rw l (record { store = a .store; entries = a .entries; sheet = new-sound (s .sheet) l; words = new-reads (s .sheet) l; cut = tt })
+
+  adds : (word tag cells spare : List ℕ) → After (addsEntry word tag cells) spare
+  unfolding answer step accepts
+  adds word tag cells spare =
+      cases (eqb (addEntry (c .lexPhones) (s .store) word tag cells .refusal) 0)
+      (λ e. let h = add-law (c .lexPhones) (s .store) word tag cells (accepted-is (c .lexPhones) (s .store) word tag cells (eqb-true (addEntry (c .lexPhones) (s .store) word tag cells .refusal) 0 e)) in
+      rw e (record { store = h .sound; entries = h .entries ∙ ap (λ (es : List Entry). adding (newEntry word tag cells) es) (a .entries); sheet = a .sheet; words = a .words; cut = a .cut }))
+      (λ e. let z : storeAfter (c .lexPhones) (s .store) word tag cells ≡ s .store = unfold storeAfter in rw e in
+      rw (e, z) a)
+
+  texts : (text spare : List ℕ) → After (addsText text) spare
+  unfolding answer step accepts
+  texts text spare =
+      cases (eqb (addEntries (c .lexPhones) (s .store) spare text .refusal) 0)
+      (λ e. let h = text-law (c .lexPhones) (s .store) spare text (eqb-true (addEntries (c .lexPhones) (s .store) spare text .refusal) 0 e) in
+      rw e (record { store = h .sound; entries = h .entries ∙ ap (λ (es : List Entry). addingAll (lineEntries (lines text)) es) (a .entries); sheet = a .sheet; words = a .words; cut = a .cut }))
+      (λ e. let z : storeAfterText (c .lexPhones) (s .store) spare text ≡ s .store = unfold storeAfterText in rw e in
+      rw (e, z) a)
+
+  -- a word that was accepted, by what it came to
+  heard : (word tag : List ℕ) (p : Spoken) → pronounced c (entries (s .store)) word tag ≡ p → Passed c (s .store) (s .sheet) word tag → onSpokenAnswer c (s .store) (s .sheet) word tag p .refusal ≡ 0
+      → Agrees (record { store = s .store; sheet = withSpoken c (s .store) (s .sheet) word tag p }) (record { entries = k .entries; words = k .words ++ onSpoken c word p })
+  heard word tag (barred n) e t h = subst (λ (ws : List Word). Agrees (record { store = s .store; sheet = s .sheet }) (record { entries = k .entries; words = ws })) (sym (append-nil (k .words))) (record { store = a .store; entries = a .entries; sheet = a .sheet; words = a .words; cut = a .cut })
+  heard word tag (phones ps) e t h =
+      cases (isCrowded (s .sheet) (said word ps))
+      (λ f. absurd (omega (arith, (rw f at h))))
+      (λ f. let p = pronounced-fits c (entries (s .store)) word tag (entries-fit (s .store) (a .store)) (t .lexicon) (t .trees) ps e in
+      let may = (phones-said word ps (t .text) p) in
+      let room = (leb-false (items (s .sheet)) (used (s .sheet) + size (said word ps)) f) in
+      record { store = a .store; entries = a .entries; sheet = append-law (s .sheet) (said word ps) (a .sheet) may room .sound; words = append-reads (s .sheet) (said word ps) (a .sheet) may room ∙ ap (λ (ws : List Word). ws ++ (said word ps ∷ [])) (a .words); cut = each-last WellCut (k .words) (said word ps) (a .cut) (said-cut word ps) })
+
+  says : (word tag spare : List ℕ) → After (saysWord word tag) spare
+  unfolding answer step accepts
+  says word tag spare =
+      cases (eqb (sayWord c (s .store) (s .sheet) word tag .refusal) 0)
+      (λ e. let r = eqb-true (sayWord c (s .store) (s .sheet) word tag .refusal) 0 e in
+      let t = passed c (s .store) (s .sheet) word tag r in
+      let z : sheetAfter c (s .store) (s .sheet) word tag ≡ withSpoken c (s .store) (s .sheet) word tag (pronounced c (entries (s .store)) word tag) = unfold sheetAfter in rw e in
+      let y : pronounced c (entries (s .store)) word tag ≡ pronounced c (k .entries) word tag = ap (λ (es : List Entry). pronounced c es word tag) (a .entries) in
+      rw (e, z, sym y) (heard word tag (pronounced c (entries (s .store)) word tag) refl t (sym (ap (λ (x : Answer). x .refusal) (t .answer)) ∙ r)))
+      (λ e. let z : sheetAfter c (s .store) (s .sheet) word tag ≡ s .sheet = unfold sheetAfter in rw e in
+      rw (e, z) a)
+
+  each-call : (call : Call) (spare : List ℕ) → After call spare
+  each-call makeSheet spare = makes spare
+  each-call (addsEntry word tag cells) spare = adds word tag cells spare
+  each-call (addsText text) spare = texts text spare
+  each-call (saysWord word tag) spare = says word tag spare
+
+-- a list of calls
+in-turn : (c : Sections) (ms : List Made) (s : State) (k : Book) → Agrees s k → Agrees (leaves c ms s) (keeps c (hears c ms s) k)
+unfolding leaves keeps hears
+in-turn c [] s k a = a
+in-turn c (m ∷ ms) s k a =
+    in-turn c ms (step c (m .call) (m .spare) s) (if isRefused c (m .call) (m .spare) s then k else accepts c (m .call) k) (each-call c s k a (m .call) (m .spare))
+
+begins : (store sheet : List ℕ) → isStoreLength (length store) ≡ true → isSheetLength (length sheet) ≡ true → Agrees (fresh store sheet) empty
+unfolding fresh empty
+begins store sheet l h =
+    let z : newStoreBytes store ≡ freshStore store l = unfold newStoreBytes newStore in rw l in
+    rw z (record { store = fresh-sound store l; entries = fresh-entries store l; sheet = new-sound sheet h; words = new-reads sheet h; cut = tt })
+
+-- for every list of calls, every set of sections, and every store and sheet as new store and new sheet leave them, their other bytes arbitrary
+pub every-list : (c : Sections) (store sheet : List ℕ) → isStoreLength (length store) ≡ true → isSheetLength (length sheet) ≡ true → (calls : List Made)
+    → Tells (leaves c calls (fresh store sheet) .sheet) (keeps c (hears c calls (fresh store sheet)) empty .words)
+every-list c store sheet l h calls =
+    let a = in-turn c calls (fresh store sheet) empty (begins store sheet l h) in
+    tells (leaves c calls (fresh store sheet) .sheet) (keeps c (hears c calls (fresh store sheet)) empty .words) (a .sheet) (a .words) (a .cut)

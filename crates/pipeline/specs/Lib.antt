@@ -1,0 +1,10 @@
+pub mod Pronounced
+pub mod SayWord
+pub mod Calls
+pub mod Book
+pub mod Sources
+pub mod Fits
+pub mod WellCut
+pub mod Claim
+pub mod Every
+pub mod Cutting

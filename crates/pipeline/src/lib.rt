@@ -1,0 +1,1 @@
+// Saying words on a sheet (01, Store and sheet).
