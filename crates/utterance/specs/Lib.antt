@@ -3,6 +3,7 @@ pub mod Sheet
 pub mod Sound
 pub mod Append
 pub mod Cuts
+pub mod Turns
 pub mod Ties
 pub mod Parsed
 pub mod Walked

@@ -1,1 +1,18 @@
 // The sheet (01, Store and sheet): items of 64 bytes, words with their syllables and phones.
+mod fields;
+mod links;
+mod order;
+mod sound;
+
+pub use fields::first;
+pub use fields::follow;
+pub use fields::item;
+pub use fields::kind;
+pub use fields::last;
+pub use fields::next;
+pub use fields::parent;
+pub use fields::prev;
+pub use fields::text;
+pub use fields::used;
+pub use sound::is_sound;
+pub use sound::new_sheet;

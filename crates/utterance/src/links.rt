@@ -1,0 +1,94 @@
+// An item's links: the item that comes behind it in reading order, and whether its fields agree with its neighbours'.
+ghost use mathlib.Core.Path.{_≡_};
+ghost use Rattle.utterance.specs.Sheet.{at, afterSyllable, afterPhone, beyond as beyondOf, after as afterOf, isParent, isSibling, isFull};
+use crate::fields::first;
+use crate::fields::kind;
+use crate::fields::last;
+use crate::fields::next;
+use crate::fields::parent;
+
+// The item behind the children of a syllable: its next sibling, or its word's.
+fn after_syllable(sheet: &[u8], i: u16) -> u16
+    ensures { λ r. ⌜ r ≡ afterSyllable (at (now (sheet .entry))) i ⌝ }
+{
+    let n = next(sheet, i);
+    if n != 0 {
+        return n;
+    }
+    next(sheet, parent(sheet, i))
+}
+
+// The item behind a phone.
+fn after_phone(sheet: &[u8], i: u16) -> u16
+    ensures { λ r. ⌜ r ≡ afterPhone (at (now (sheet .entry))) i ⌝ }
+{
+    let n = next(sheet, i);
+    if n != 0 {
+        return n;
+    }
+    after_syllable(sheet, parent(sheet, i))
+}
+
+// The item behind the children of item i.
+fn beyond(sheet: &[u8], i: u16) -> u16
+    ensures { λ r. ⌜ r ≡ beyondOf (at (now (sheet .entry))) i ⌝ }
+{
+    let k = kind(sheet, i);
+    if k == 3 {
+        return after_phone(sheet, i);
+    }
+    if k == 2 {
+        return after_syllable(sheet, i);
+    }
+    next(sheet, i)
+}
+
+// The next item in reading order.
+pub fn after(sheet: &[u8], i: u16) -> u16
+    ensures { λ r. ⌜ r ≡ afterOf (at (now (sheet .entry))) i ⌝ }
+{
+    let f = first(sheet, i);
+    if f != 0 {
+        return f;
+    }
+    beyond(sheet, i)
+}
+
+// Whether an item's child fields agree with its first child.
+pub fn is_parent(sheet: &[u8], i: u16) -> bool
+    ensures { λ r. ⌜ r ≡ isParent (at (now (sheet .entry))) i ⌝ }
+{
+    let f = first(sheet, i);
+    if f == 0 {
+        return last(sheet, i) == 0;
+    }
+    if parent(sheet, f) != i {
+        return false;
+    }
+    texts::wide(kind(sheet, f)) == texts::wide(kind(sheet, i)) + 1
+}
+
+// Whether an item agrees with its next sibling, or with its parent where it is the last.
+pub fn is_sibling(sheet: &[u8], i: u16) -> bool
+    ensures { λ r. ⌜ r ≡ isSibling (at (now (sheet .entry))) i ⌝ }
+{
+    let n = next(sheet, i);
+    let p = parent(sheet, i);
+    if n == 0 {
+        return last(sheet, p) == i;
+    }
+    if parent(sheet, n) != p {
+        return false;
+    }
+    kind(sheet, n) == kind(sheet, i)
+}
+
+// Whether an item has a phone if it is a syllable.
+pub fn is_full(sheet: &[u8], i: u16) -> bool
+    ensures { λ r. ⌜ r ≡ isFull (at (now (sheet .entry))) i ⌝ }
+{
+    if kind(sheet, i) != 2 {
+        return true;
+    }
+    first(sheet, i) != 0
+}

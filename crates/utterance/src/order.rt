@@ -1,0 +1,120 @@
+// Walks over the items in reading order: whether all are met and well placed, whether each syllable has a phone, and
+// whether the phones are chained.
+ghost use mathlib.Core.Path.{_≡_};
+ghost use Prim.Native.Nat.{_<_};
+ghost use Rattle.texts.specs.Lists.{every};
+ghost use Rattle.utterance.specs.Sheet.{at, used as usedOf, items, isFull, isChained, isPlaced, walks, order};
+ghost use Rattle.utterance.specs.Turns.{isTied, lastPhone, isLast};
+use crate::fields::follow;
+use crate::fields::item;
+use crate::fields::kind;
+use crate::fields::prev;
+use crate::fields::used;
+use crate::links::after;
+use crate::links::is_full;
+use crate::links::is_parent;
+use crate::links::is_sibling;
+
+// Whether an item is numbered 1 to used, sound by itself, and agrees with its neighbours.
+fn is_placed(sheet: &[u8], i: u16) -> bool
+    requires { ⌜ usedOf (now sheet) < items (now sheet) ⌝ }
+    ensures { λ r. ⌜ r ≡ isPlaced (now (sheet .entry)) i ⌝ }
+{
+    if i == 0 {
+        return false;
+    }
+    if used(sheet) < i {
+        return false;
+    }
+    if !items::is_item(item(sheet, i)) {
+        return false;
+    }
+    texts::both(is_parent(sheet, i), is_sibling(sheet, i))
+}
+
+// Whether as many items as are used stand behind item 0, each well placed, and then nothing.
+pub fn is_walked(sheet: &[u8]) -> bool
+    requires { ⌜ usedOf (now sheet) < items (now sheet) ⌝ }
+    ensures { λ r. ⌜ r ≡ walks (now (sheet .entry)) (usedOf (now (sheet .entry))) 0 ⌝ }
+{
+    let mut p = 0;
+    let mut left = used(sheet);
+    while 0 < left {
+        p = after(sheet, p);
+        if !is_placed(sheet, p) {
+            return false;
+        }
+        left -= 1;
+    }
+    after(sheet, p) == 0
+}
+
+// Whether each syllable has a phone.
+pub fn are_full(sheet: &[u8]) -> bool
+    ensures { λ r. ⌜ r ≡ every (isFull (at (now (sheet .entry)))) (order (now (sheet .entry))) ⌝ }
+{
+    let mut p = 0;
+    let mut left = used(sheet);
+    while 0 < left {
+        p = after(sheet, p);
+        if p == 0 {
+            return true;
+        }
+        if !is_full(sheet, p) {
+            return false;
+        }
+        left -= 1;
+    }
+    true
+}
+
+// Whether item x, behind phone q, is tied to it both ways if it is a phone.
+fn is_tied(sheet: &[u8], q: u16, x: u16) -> bool
+    ensures { λ r. ⌜ r ≡ isTied (at (now (sheet .entry))) q x ⌝ }
+{
+    if kind(sheet, x) != 3 {
+        return true;
+    }
+    if follow(sheet, q) != x {
+        return false;
+    }
+    prev(sheet, x) == q
+}
+
+// The last phone once item x is passed, where it was q before.
+fn last_phone(sheet: &[u8], q: u16, x: u16) -> u16
+    ensures { λ r. ⌜ r ≡ lastPhone (at (now (sheet .entry))) q x ⌝ }
+{
+    if kind(sheet, x) == 3 { x } else { q }
+}
+
+// Whether phone q, or item 0, is tied as the last.
+fn is_last(sheet: &[u8], q: u16) -> bool
+    ensures { λ r. ⌜ r ≡ isLast (at (now (sheet .entry))) q ⌝ }
+{
+    if follow(sheet, q) != 0 {
+        return false;
+    }
+    prev(sheet, 0) == q
+}
+
+// Whether the phones are chained in reading order, both ways.
+pub fn are_chained(sheet: &[u8]) -> bool
+    ensures { λ r. ⌜ r ≡ isChained (at (now (sheet .entry))) 0 (order (now (sheet .entry))) ⌝ }
+{
+    let mut p = 0;
+    let mut q = 0;
+    let mut left = used(sheet);
+    while 0 < left {
+        p = after(sheet, p);
+        if p == 0 {
+            return is_last(sheet, q);
+        }
+        if !is_tied(sheet, q, p) {
+            return false;
+        }
+        q = last_phone(sheet, q, p);
+        left -= 1;
+    }
+    is_last(sheet, q)
+}
