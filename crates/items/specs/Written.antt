@@ -1,6 +1,6 @@
 -- An item written whole has 64 bytes, is read back as it was, and leaves zeros past its text.
 -- Assumes nothing.
-use Prim.Native.Nat.{ℕ, zero, suc, _+_, _-_, _*_, _%_, _/_, _≤_, _<_}
+use Prim.Native.Nat.{ℕ, zero, suc, _+_, _-_, _*_, _%_, _/_, _≤_}
 use native.Mathlib.Omega.{arith}
 use mathlib.Core.Path.{_≡_, refl}
 use mathlib.Core.Bool.{true}
@@ -11,16 +11,6 @@ use Rattle.texts.specs.Lists.{every}
 use Rattle.texts.specs.Text.{is}
 use Rattle.records.specs.Fields.{u16At}
 use Rattle.items.specs.Item.{Item, item, itemOf, isClean}
-
--- an item whose numbers and text have their places
-pub record Small (i : Item) : Type 0 where
-  pub next : i .next < 65536
-  pub first : i .first < 65536
-  pub last : i .last < 65536
-  pub parent : i .parent < 65536
-  pub prev : i .prev < 65536
-  pub follow : i .follow < 65536
-  pub text : length (i .text) ≤ 47
 
 pub length-item : (i : Item) → length (i .text) ≤ 47 → length (item i) ≡ 64
 unfolding item
@@ -35,9 +25,6 @@ pub item-back : (i : Item) → itemOf (item i) ≡ i
 unfolding item itemOf u16At
 item-back i =
     rw (bytes-join (i .next), bytes-join (i .first), bytes-join (i .last), bytes-join (i .parent), bytes-join (i .prev), bytes-join (i .follow), take-append-seam (i .text) (replicate (47 - length (i .text)) 0))
-
-pub item-read : (i : Item) → Small i → itemOf (item i) ≡ i
-item-read i s = item-back i
 
 -- zeros are zero
 zeros : (n : ℕ) → every (is 0) (replicate n 0) ≡ true

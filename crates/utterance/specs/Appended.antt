@@ -20,7 +20,8 @@ use Rattle.utterance.specs.Sound.{Placed, Sound}
 use Rattle.utterance.specs.Append.{size, placeOf, appended, isSaid}
 use Rattle.utterance.specs.Read.{reading-is}
 use Rattle.utterance.specs.Behind.{all-both, all-from}
-use Rattle.utterance.specs.Places.{all-phones, all-words, word-kinds, phone-kinds}
+use Rattle.utterance.specs.Walked.{word-kinds}
+use Rattle.utterance.specs.Places.{all-phones, all-words, phone-kinds}
 use Rattle.utterance.specs.Grown.{Grown, back-end, grown-items, grown-once, grown-full, grown-tree, grown-reads, grown-onwards, grown-backwards}
 use Rattle.utterance.specs.Wrote.{said-parts, said-filled}
 use Rattle.utterance.specs.Bytes.{length-appended, appended-kept, appended-grown, appended-head, appended-old, appended-new}

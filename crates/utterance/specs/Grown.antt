@@ -15,7 +15,8 @@ use Rattle.items.specs.Item.{Item}
 use Rattle.utterance.specs.Tree.{Word, WordAt, wordsAt, phonesIn, phonesAt, itemsAt, Full, sibling, prev, follow, Children, Tree, wordAt}
 use Rattle.utterance.specs.Append.{headOr, size, numbered, placeOf, wordItems}
 use Rattle.utterance.specs.Behind.{all-both, all-reverse, reverse-append, head-reverse, distinct-append, all-from, distinct-from, onto-linked, backed-linked, linked-head, moved, join}
-use Rattle.utterance.specs.Places.{Filled, words-append, phones-append, items-append, full-append, tree-append, read-append, all-phonesIn, all-phones, all-words, word-kinds, numbered-full, word-items, place-items}
+use Rattle.utterance.specs.Walked.{word-kinds}
+use Rattle.utterance.specs.Places.{Filled, words-append, phones-append, items-append, full-append, tree-append, read-append, all-phonesIn, all-phones, all-words, numbered-full, word-items, place-items}
 use Rattle.utterance.specs.Kept.{Kept, retied, kept-by, words-say, words-kept}
 use Rattle.utterance.specs.Said.{Are, Said, said}
 

@@ -63,12 +63,8 @@ module _ (P : ℕ → Type 0) where
   all-words [] h = tt
   all-words (w ∷ ws) h = (h .0, all-words ws (all-right P (itemsIn (w .syllables)) (itemsAt ws) (h .1)))
 
--- the kinds of words and phones
+-- the kind of phones
 module _ (S : ℕ → Item) where
-  pub word-kinds : (ws : List WordAt) → Words S ws → All (λ (x : ℕ). S x .kind ≡ 1) (wordsAt ws)
-  word-kinds [] h = tt
-  word-kinds (w ∷ ws) h = (h .0, word-kinds ws (h .3))
-
   kinds-in : (ss : List SyllableAt) → Syllables S ss → All (λ (x : ℕ). S x .kind ≡ 3) (phonesIn ss)
   kinds-in [] h = tt
   kinds-in (s ∷ ss) h = all-append (λ (x : ℕ). S x .kind ≡ 3) (s .phones) (phonesIn ss) (h .2) (kinds-in ss (h .3))

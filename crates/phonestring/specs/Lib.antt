@@ -1,0 +1,2 @@
+pub mod PhoneString
+pub mod Turns
