@@ -74,7 +74,7 @@ paste-parts d s t r k e h =
 pub paste-none : (d r : List ℕ) (k : ℕ) → r ≡ [] → paste d k r (length r) ≡ d
 paste-none d r k e = rw e (sym (paste-zero d k []))
 
--- the gap's length
+-- the gap, and its length
 pub gap-first : (p : ℕ) → p ≡ 0 → gap p ≡ []
 unfolding gap
 gap-first p z = rw (eq-eqb p 0 z)

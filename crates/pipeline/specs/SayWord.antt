@@ -20,10 +20,13 @@ use Rattle.pipeline.specs.Pronounced.{Sections, Spoken, barred, phones, 
 abbrev pub isCrowded : List ℕ → Word → Bool
 isCrowded sheet w = leb (items sheet) (used sheet + size w)
 
+abbrev pub placed : List ℕ → Word → Answer
+placed sheet w = if isCrowded sheet w then refused 9 0 else accepted 0 0
+
 module _ (c : Sections) (store sheet word tag : List ℕ) where
   abbrev pub onSpoken : Spoken → Answer
   onSpoken (barred n) = refused n 0
-  onSpoken (phones ps) = if isCrowded sheet (said word ps) then refused 9 0 else accepted 0 0
+  onSpoken (phones ps) = placed sheet (said word ps)
 
   abbrev pub withSpoken : Spoken → List ℕ
   withSpoken (barred n) = sheet
