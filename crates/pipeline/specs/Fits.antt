@@ -25,14 +25,14 @@ use Rattle.pipeline.specs.Pronounced.{Sections, Spoken, barred, phones, 
 use Rattle.pipeline.specs.Sources.{Fit, AreFit, find-fit, letters-fit}
 
 -- a stress byte
-isStress : ℕ → Bool
+unfoldable pub isStress : ℕ → Bool
 isStress n = eqb n 48 || eqb n 49
 
 one-of : (n : ℕ) → someOf (eqb n) digits ≡ true → isStress n ≡ true
 unfolding isStress someOf
 one-of n h = cases (eqb n 48) (λ e. rw e) (λ e. cases (eqb n 49) (λ f. rw (e, f)) (λ f. let z : false ≡ true = rw (e, f) at h in never false z refl))
 
-digit : (p : List ℕ) → isStressed digits p ≡ true → isStress (stress digits p) ≡ true
+pub digit : (p : List ℕ) → isStressed digits p ≡ true → isStress (stress digits p) ≡ true
 unfolding stress
 digit p h = rw h (one-of (lastByte p) (unfold isStressed in h))
 

@@ -8,3 +8,6 @@ pub mod WellCut
 pub mod Claim
 pub mod Every
 pub mod Cutting
+pub mod ChosenSource
+pub mod BareCells
+pub mod CutLaws

@@ -2,7 +2,6 @@ pub mod Tree
 pub mod Sheet
 pub mod Sound
 pub mod Append
-pub mod Cuts
 pub mod Turns
 pub mod Ties
 pub mod Parsed

@@ -1,0 +1,4 @@
+pub mod Cuts
+pub mod Grouped
+pub mod Numbers
+pub mod Putting
