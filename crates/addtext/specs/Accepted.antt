@@ -43,7 +43,7 @@ not-zero Phones = refl
 not-zero Full = refl
 not-zero Short = refl
 
-refused-never : {C : Type 0} (r : Refusal) → refusalNumber r ≡ 0 → C
+pub refused-never : {C : Type 0} (r : Refusal) → refusalNumber r ≡ 0 → C
 refused-never r h = never (eqb (refusalNumber r) 0) (eq-eqb (refusalNumber r) 0 h) (not-zero r)
 
 -- where the answer is a refusal, what was lent stays

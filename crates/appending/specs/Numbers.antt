@@ -134,7 +134,10 @@ module _ (ms : List ℕ) (ps : List (List ℕ)) (l : length ms ≡ length ps) wh
           last-phone q k (grouped ms ps) (grouped-some ms ps l (omega arith)) (grouped-filled ms ps)
           ∙ sym (head-some q (k + sizeIn (grouped ms ps)) (length ms) (omega arith))
 
--- one syllable further, from phone i to e
+-- from phone i to e stands a syllable, with all its items
+abbrev pub Step : List ℕ → List (List ℕ) → ℕ → ℕ → Type 0
+Step ms ps i e = (i < e) × (e ≤ length ms) × (sizeIn (grouped (drop i ms) (drop i ps)) ≡ 1 + (e - i) + sizeIn (grouped (drop e ms) (drop e ps)))
+
 module _ (ms : List ℕ) (ps : List (List ℕ)) (i e : ℕ) (l : length ms ≡ length ps) (more : i < length ms) (ended : Ended ms) (end : e ≡ i + span (drop i ms)) where
   pub phones-long : length (take (e - i) (drop i ps)) ≡ e - i
   phones-long =
@@ -142,9 +145,9 @@ module _ (ms : List ℕ) (ps : List (List ℕ)) (i e : ℕ) (l : length ms ≡ l
       let d = length-drop i ps in
       length-take-le (e - i) (drop i ps) (omega arith)
 
-  pub size-turn : sizeIn (grouped (drop i ms) (drop i ps)) ≡ 1 + (e - i) + sizeIn (grouped (drop e ms) (drop e ps))
+  pub step : Step ms ps i e
   unfolding sizeIn
-  size-turn = rw (grouped-from ms ps i e l more ended end, phones-long)
+  step = let b = end-behind ms ps i e l more ended end in (b .0, b .1, rw (grouped-from ms ps i e l more ended end, phones-long))
 
   pub numbered-turn : (k : ℕ) → numbered k (grouped (drop i ms) (drop i ps)) ≡ record { at = k; phones = from (k + 1) (e - i) } ∷ numbered (k + 1 + (e - i)) (grouped (drop e ms) (drop e ps))
   unfolding numbered

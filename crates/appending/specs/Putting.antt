@@ -68,6 +68,15 @@ syllableItem w k stress n left =
 unfoldable pub oneSyllable : ℕ → ℕ → ℕ → ℕ → ℕ → ℕ → List (List ℕ) → List Item
 oneSyllable w q k stress n left ps = syllableItem w k stress n left ∷ phoneItems k q (headOr 0 (from (k + 1 + n + 1) left)) (from (k + 1) n) ps
 
+pub syllable-written : (b s t : List ℕ) (w q k stress n left next a : ℕ) (ps : List (List ℕ)) → next ≡ headOr 0 (from (k + n + 1) left) → a ≡ headOr 0 (from (k + n + 2) left)
+    → s ≡ putRecord 64 b k (item (record { kind = 2; stress = stress; next = next; first = k + 1; last = k + n; parent = w; prev = 0; follow = 0; mark = 0; source = 0; text = [] }))
+    → t ≡ putItems s (k + 1) (phoneItems k q a (from (k + 1) n) ps) → t ≡ putItems b k (oneSyllable w q k stress n left ps)
+unfolding oneSyllable putItems
+syllable-written b s t w q k stress n left next a ps en ea es et =
+    let e₁ : k + n + 1 ≡ k + 1 + n = omega arith in
+    let e₂ : k + n + 2 ≡ k + 1 + n + 1 = omega arith in
+    et ∙ rw (es, en, ea, e₁, e₂)
+
 -- the items of syllables numbered from k on
 unfoldable pub syllablesFrom : ℕ → ℕ → ℕ → List Syllable → List Item
 syllablesFrom w q k ys = syllableItems w q (numbered k ys) ys

@@ -1,6 +1,6 @@
--- `appending::last_syllable` meets its contract: the last of all is the last of the syllables left, behind the one passed. Assumes nothing.
+-- `utterance::last_syllable` meets its contract: the last of all is the last of the syllables left, behind the one passed. Assumes nothing.
 use Rattle.appending.proofs.last_syllable.Statement.{statement}
-use Prim.Native.Nat.{ℕ, _≤_, _-_, _+_, _<_}
+use Prim.Native.Nat.{ℕ, _≤_, _-_, _+_}
 use native.Mathlib.Omega.{arith}
 use mathlib.Core.Path.{_≡_, refl, sym, ap, _∙_}
 use lib.ListN.{length, drop}
@@ -9,8 +9,7 @@ use Rattle.cells.specs.Cells.{phonesOf, length-phonesOf}
 use Rattle.utterance.specs.Tree.{syllablesAt}
 use Rattle.utterance.specs.Append.{sizeIn, numbered}
 use Rattle.appending.specs.Cuts.{grouped}
-use Rattle.appending.specs.Grouped.{end-behind}
-use Rattle.appending.specs.Numbers.{size-turn, last-turn, grouped-end}
+use Rattle.appending.specs.Numbers.{Step, step, last-turn, grouped-end}
 use Rattle.appending.proofs.last_syllable.Tie as tie
 
 abbrev Inv-loop : tie.InvT-loop
@@ -19,19 +18,12 @@ Inv-loop phones cuts k count y₀ n₀ i₀ y n i = (endOf 0 (syllablesAt (numbe
 abbrev μ-loop : tie.MeasureT-loop
 μ-loop phones cuts k count y₀ n₀ i₀ y n i = length cuts - i
 
-behind : (c : tie.After-end-of Inv-loop μ-loop) → (c .before .before .loop .i < c .end-of .result) × (c .end-of .result ≤ length (c .before .before .before .before .before .args .cuts .now))
+behind : (c : tie.After-end-of Inv-loop μ-loop) → Step (c .before .before .before .before .before .args .cuts .now) (phonesOf (c .before .before .before .before .before .args .phones .now)) (c .before .before .loop .i) (c .end-of .result)
 behind c =
     let a = c .before .before .before .before .before .args in
     let p = c .before .before .before .before .before .pre in
     let l = length-phonesOf (a .phones .now) in
-    end-behind (a .cuts .now) (phonesOf (a .phones .now)) (c .before .before .loop .i) (c .end-of .result) (p .0 ∙ sym l) (omega arith) (p .1) (c .end-of .ensures)
-
-turn : (c : tie.After-end-of Inv-loop μ-loop) → sizeIn (grouped (drop (c .before .before .loop .i) (c .before .before .before .before .before .args .cuts .now)) (drop (c .before .before .loop .i) (phonesOf (c .before .before .before .before .before .args .phones .now)))) ≡ 1 + (c .end-of .result - c .before .before .loop .i) + sizeIn (grouped (drop (c .end-of .result) (c .before .before .before .before .before .args .cuts .now)) (drop (c .end-of .result) (phonesOf (c .before .before .before .before .before .args .phones .now))))
-turn c =
-    let a = c .before .before .before .before .before .args in
-    let p = c .before .before .before .before .before .pre in
-    let l = length-phonesOf (a .phones .now) in
-    size-turn (a .cuts .now) (phonesOf (a .phones .now)) (c .before .before .loop .i) (c .end-of .result) (p .0 ∙ sym l) (omega arith) (p .1) (c .end-of .ensures)
+    step (a .cuts .now) (phonesOf (a .phones .now)) (c .before .before .loop .i) (c .end-of .result) (p .0 ∙ sym l) (omega arith) (p .1) (c .end-of .ensures)
 
 loop-holds : tie.Need-loop-holds Inv-loop μ-loop
 loop-holds c = (refl, c .before .before .pre .2, omega arith, sym (c .before .before .pre .0))
@@ -40,19 +32,19 @@ end-of-requires : tie.Need-end-of-requires Inv-loop μ-loop
 end-of-requires c κs = omega arith
 
 sub-n : tie.Need-sub-n Inv-loop μ-loop
-sub-n c = omega (arith, behind ((c)))
+sub-n c = omega (arith, behind c)
 
 cast-n : tie.Need-cast-n Inv-loop μ-loop
-cast-n c = omega (arith, behind ((c)), turn ((c)))
+cast-n c = omega (arith, behind c)
 
 add-n : tie.Need-add-n Inv-loop μ-loop
-add-n c = omega (arith, behind ((c)), turn ((c)))
+add-n c = omega (arith, behind c)
 
 add-n-2 : tie.Need-add-n-2 Inv-loop μ-loop
-add-n-2 c = omega (arith, behind ((c)), turn ((c)))
+add-n-2 c = omega (arith, behind c)
 
 loop-less : tie.Need-loop-less Inv-loop μ-loop
-loop-less c = omega (arith, behind ((c)))
+loop-less c = omega (arith, behind c)
 
 loop-again : tie.Need-loop-again Inv-loop μ-loop
 loop-again c =
@@ -60,8 +52,7 @@ loop-again c =
     let i = c .before .before .loop .i in
     let e = c .end-of .result in
     let n = c .before .before .loop .n in
-    let b = behind (c) in
-    let s = turn (c) in
+    let b = behind c in
     let l = length-phonesOf (a .phones .now) in
     let t = last-turn (a .cuts .now) (phonesOf (a .phones .now)) i e (c .before .before .before .before .before .pre .0 ∙ sym l) (omega arith) (c .before .before .before .before .before .pre .1) (c .end-of .ensures) (c .before .before .loop .y) n in
     let f : n + 1 + (e - i) ≡ n + (1 + (e - i)) = omega arith in

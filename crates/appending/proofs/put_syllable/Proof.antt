@@ -1,11 +1,12 @@
--- `appending::put_syllable` meets its contract: the syllable's own item, then its phones. Assumes nothing.
+-- `utterance::put_syllable` meets its contract: the syllable's own item, then its phones. Assumes nothing.
 use borrow.Author.Needs.{needs}
 use Rattle.appending.proofs.put_syllable.Statement.{statement}
-use Prim.Native.Nat.{ℕ, _-_, _+_}
+use Prim.Native.Nat.{ℕ, _-_}
 use native.Mathlib.Omega.{arith}
-use mathlib.Core.Path.{_≡_, _∙_}
-use Rattle.utterance.specs.Append.{putItems}
-use Rattle.appending.specs.Putting.{oneSyllable}
+use mathlib.Core.Path.{_∙_}
+use Rattle.appending.specs.Putting.{syllable-written}
+use Rattle.cells.specs.Cells.{phonesOf}
+use lib.ListN.{length, getD, take, drop}
 use Rattle.appending.proofs.put_syllable.Tie as tie
 
 sub-end : tie.Need-sub-end
@@ -62,13 +63,10 @@ same-length : tie.Need-same-length
 same-length c = c .before .before .put-phones .kept .0 ∙ c .before .before .before .before .before .before .put-item .kept .0
 
 returns : tie.Need-returns
-unfolding oneSyllable putItems
 returns c =
     let a = c .before .before .before .before .before .before .before .before .before .before .before .before .before .before .before .args in
     let n : ℕ = a .e - a .i in
-    let e₁ : a .k + n + 1 ≡ a .k + 1 + n = omega arith in
-    let e₂ : a .k + n + 2 ≡ a .k + 1 + n + 1 = omega arith in
-    c .before .before .put-phones .ensures ∙ rw (c .before .before .before .before .before .before .put-item .ensures, c .before .before .before .before .before .before .before .before .before .before .before .next-or .ensures, c .before .before .before .before .before .before .before .before .before .before .next-or2 .ensures, e₁, e₂)
+    syllable-written (a .sheet .now) (c .before .before .before .before .before .before .put-item .last .0) (c .before .before .put-phones .last .0) (a .w) (a .q) (a .k) (getD (a .cuts .now) (a .e - 1) 0) n (length (a .cuts .now) - a .e) (c .before .before .before .before .before .before .before .before .before .before .before .next-or .result) (c .before .before .before .before .before .before .before .before .before .before .next-or2 .result) (take n (drop (a .i) (phonesOf (a .phones .now)))) (c .before .before .before .before .before .before .before .before .before .before .before .next-or .ensures) (c .before .before .before .before .before .before .before .before .before .before .next-or2 .ensures) (c .before .before .before .before .before .before .put-item .ensures) (c .before .before .put-phones .ensures)
 
 pub put-syllable-spec : {M : Type 1} → statement M
 put-syllable-spec =

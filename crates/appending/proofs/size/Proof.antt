@@ -1,14 +1,13 @@
--- `appending::size` meets its contract: what is counted and what the syllables left need is the size. Assumes nothing.
+-- `utterance::size` meets its contract: what is counted and what the syllables left need is the size. Assumes nothing.
 use Rattle.appending.proofs.size.Statement.{statement}
-use Prim.Native.Nat.{_≤_, _-_, _+_, _*_, _<_}
+use Prim.Native.Nat.{_≤_, _-_, _+_, _*_}
 use native.Mathlib.Omega.{arith}
 use mathlib.Core.Path.{_≡_, refl, sym, ap, _∙_}
 use lib.ListN.{length, drop}
 use Rattle.cells.specs.Cells.{phonesOf, length-phonesOf}
 use Rattle.utterance.specs.Append.{sizeIn}
 use Rattle.appending.specs.Cuts.{grouped}
-use Rattle.appending.specs.Grouped.{end-behind}
-use Rattle.appending.specs.Numbers.{size-turn, grouped-end}
+use Rattle.appending.specs.Numbers.{Step, step, grouped-end}
 use Rattle.appending.proofs.size.Tie as tie
 
 abbrev Inv-loop : tie.InvT-loop
@@ -17,12 +16,12 @@ Inv-loop phones cuts count n₀ i₀ n i = (n + sizeIn (grouped (drop i cuts) (d
 abbrev μ-loop : tie.MeasureT-loop
 μ-loop phones cuts count n₀ i₀ n i = length cuts - i
 
-behind : (c : tie.After-end-of Inv-loop μ-loop) → (c .before .before .loop .i < c .end-of .result) × (c .end-of .result ≤ length (c .before .before .before .before .before .args .cuts .now))
+behind : (c : tie.After-end-of Inv-loop μ-loop) → Step (c .before .before .before .before .before .args .cuts .now) (phonesOf (c .before .before .before .before .before .args .phones .now)) (c .before .before .loop .i) (c .end-of .result)
 behind c =
     let a = c .before .before .before .before .before .args in
     let p = c .before .before .before .before .before .pre in
     let l = length-phonesOf (a .phones .now) in
-    end-behind (a .cuts .now) (phonesOf (a .phones .now)) (c .before .before .loop .i) (c .end-of .result) (p .0 ∙ sym l) (omega arith) (p .1) (c .end-of .ensures)
+    step (a .cuts .now) (phonesOf (a .phones .now)) (c .before .before .loop .i) (c .end-of .result) (p .0 ∙ sym l) (omega arith) (p .1) (c .end-of .ensures)
 
 loop-holds : tie.Need-loop-holds Inv-loop μ-loop
 loop-holds c = (refl, omega arith, omega arith, sym (c .before .before .pre .0))
@@ -31,23 +30,22 @@ end-of-requires : tie.Need-end-of-requires Inv-loop μ-loop
 end-of-requires c κs = omega arith
 
 sub-n : tie.Need-sub-n Inv-loop μ-loop
-sub-n c = omega (arith, behind ((c)))
+sub-n c = omega (arith, behind c)
 
 add-n : tie.Need-add-n Inv-loop μ-loop
-add-n c = omega (arith, behind ((c)))
+add-n c = omega (arith, behind c)
 
 add-n-2 : tie.Need-add-n-2 Inv-loop μ-loop
-add-n-2 c = omega (arith, behind ((c)))
+add-n-2 c = omega (arith, behind c)
 
 loop-less : tie.Need-loop-less Inv-loop μ-loop
-loop-less c = omega (arith, behind ((c)))
+loop-less c = omega (arith, behind c)
 
 loop-again : tie.Need-loop-again Inv-loop μ-loop
 loop-again c =
     let a = c .before .before .before .before .before .args in
-    let b = behind (c) in
+    let b = behind c in
     let l = length-phonesOf (a .phones .now) in
-    let t = size-turn (a .cuts .now) (phonesOf (a .phones .now)) (c .before .before .loop .i) (c .end-of .result) (c .before .before .before .before .before .pre .0 ∙ sym l) (omega arith) (c .before .before .before .before .before .pre .1) (c .end-of .ensures) in
     (omega arith, omega arith, b .1, c .before .before .loop .inv .3)
 
 returns : tie.Need-returns Inv-loop μ-loop
