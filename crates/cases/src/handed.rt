@@ -8,7 +8,7 @@ use answers::Answer;
 // Where the arguments of a call end in the room, in order; the first stands from `ends[0]` on.
 pub struct Given {
     pub ok: bool,
-    pub ends: [usize; 8],
+    pub ends: [usize; 12],
 }
 
 // Argument k of a line that has n, read into the room; nothing where there is no such argument.
@@ -20,7 +20,7 @@ fn one_argument(
     room: &mut [u8],
     end: usize,
 ) -> Reading
-    requires { ⌜ k < 8 ⌝ }
+    requires { ⌜ k < 12 ⌝ }
 {
     if k < n {
         return read::string(read::token(line, k + 1), regs, room, end);
@@ -34,19 +34,19 @@ fn one_argument(
 
 // Whether an arrow stands behind n arguments.
 fn has_arrow(line: &[u8], n: usize) -> bool
-    requires { ⌜ n < 8 ⌝ }
+    requires { ⌜ n < 12 ⌝ }
 {
     texts::same(read::token(line, n + 1), b"->")
 }
 
 // Arguments 1 to n of a line, read into the room from its front on; `ok` asks for an arrow behind them.
 pub fn arguments(line: &[u8], n: usize, regs: &[u8], room: &mut [u8]) -> Given
-    requires { ⌜ n < 8 ⌝ }
+    requires { ⌜ n < 12 ⌝ }
 {
-    let mut ends = [0usize; 8];
+    let mut ends = [0usize; 12];
     let mut end = 0;
     let mut k = 0;
-    while k < 7 {
+    while k < 11 {
         ends[k] = end;
         let r = one_argument(line, k, n, regs, room, end);
         if !r.ok {
@@ -55,14 +55,14 @@ pub fn arguments(line: &[u8], n: usize, regs: &[u8], room: &mut [u8]) -> Given
         end = r.end;
         k += 1;
     }
-    ends[7] = end;
+    ends[11] = end;
     let ok = has_arrow(line, n);
     Given { ok, ends }
 }
 
 // Argument k, counted from 0.
 pub fn argument(room: &[u8], given: Given, k: usize) -> &[u8] {
-    if k < 7 {
+    if k < 11 {
         let ends = given.ends;
         return read::part(room, ends[k], ends[k + 1]);
     }
@@ -115,9 +115,9 @@ pub fn as_told(
         return texts::same(bytes, argument(room, given, last));
     }
     let ends = given.ends;
-    let r = read::string(told, regs, room, ends[7]);
+    let r = read::string(told, regs, room, ends[11]);
     if r.ok {
-        return texts::same(bytes, read::part(room, ends[7], r.end));
+        return texts::same(bytes, read::part(room, ends[11], r.end));
     }
     false
 }

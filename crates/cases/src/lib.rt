@@ -3,8 +3,10 @@
 mod entries;
 mod handed;
 mod many;
+mod many_sheets;
 mod read;
 mod run;
+mod sheets;
 
 pub use run::Run;
 pub use run::run_on;

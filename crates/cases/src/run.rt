@@ -6,7 +6,9 @@ use crate::entries;
 use crate::handed;
 use crate::handed::Given;
 use crate::many;
+use crate::many_sheets;
 use crate::read;
+use crate::sheets;
 
 // What came of a line.
 pub enum Outcome {
@@ -132,6 +134,21 @@ fn define(line: &[u8], regs: &mut [u8], room: &mut [u8]) -> bool {
     true
 }
 
+// A call of the sheet by its name.
+fn run_sheets(line: &[u8], regs: &[u8], room: &mut [u8], out: &mut [u8]) -> bool {
+    let name = read::token(line, 0);
+    if texts::same(name, b"new_sheet") {
+        return sheets::run_new_sheet(line, regs, room, out);
+    }
+    if texts::same(name, b"phone_string") {
+        return sheets::run_phone_string(line, regs, room, out);
+    }
+    if texts::same(name, b"damage_phone_string") {
+        return many_sheets::run_damage_phone_string(line, regs, room, out);
+    }
+    false
+}
+
 // A call of the lexicon and the store by its name.
 fn run_entries(line: &[u8], regs: &[u8], room: &mut [u8], out: &mut [u8]) -> bool {
     let name = read::token(line, 0);
@@ -156,7 +173,7 @@ fn run_entries(line: &[u8], regs: &[u8], room: &mut [u8], out: &mut [u8]) -> boo
     if texts::same(name, b"fill") {
         return many::run_fill(line, regs, room, out);
     }
-    false
+    run_sheets(line, regs, room, out)
 }
 
 // A call by its name.

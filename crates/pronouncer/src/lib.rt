@@ -13,6 +13,8 @@ ghost use Rattle.compiled.specs.Call.{checkLexicon};
 ghost use Rattle.lexicon.specs.Lookup.{lookup, lookedUp};
 ghost use Rattle.lexicon.specs.Adding.{addEntry, storeAfter};
 ghost use Rattle.addtext.specs.Call.{addEntries, storeAfter as storeBehind, spareAfter as spareBehind};
+ghost use Rattle.utterance.specs.Sheet.{newSheet, newBytes as newSheetBytes};
+ghost use Rattle.phonestring.specs.PhoneString.{phoneString, stringAfter};
 use answers::Answer;
 
 // lex.phones, lex.index, lex.data
@@ -109,6 +111,24 @@ pub extern "C" fn pronouncer_add_entries(
     ensures { λ _. ⌜ now (spare .exit) ≡ spareBehind (now (table .entry)) (now (store .entry)) (now (spare .entry)) (now (text .entry)) ⌝ }
 {
     answers::told_lines(addtext::add_entries(table, store, spare, text))
+}
+
+// a sheet
+#[no_mangle]
+pub extern "C" fn pronouncer_new_sheet(sheet: &mut [u8]) -> Answer
+    ensures { λ r. ⌜ r ≡ newSheet (now (sheet .entry)) ⌝ }
+    ensures { λ _. ⌜ now (sheet .exit) ≡ newSheetBytes (now (sheet .entry)) ⌝ }
+{
+    answers::told_done(utterance::new_sheet(sheet))
+}
+
+// a sheet, an output
+#[no_mangle]
+pub extern "C" fn pronouncer_phone_string(sheet: &[u8], out: &mut [u8]) -> Answer
+    ensures { λ r. ⌜ r ≡ phoneString (now (sheet .entry)) (now (out .entry)) ⌝ }
+    ensures { λ _. ⌜ now (out .exit) ≡ stringAfter (now (sheet .entry)) (now (out .entry)) ⌝ }
+{
+    answers::told_joined(phonestring::phone_string(sheet, out))
 }
 
 // Whether a phone's text is a vowel: `kind` 1 or 0. Not one of the eleven calls.

@@ -7,10 +7,10 @@ use Rattle.cases.proofs.handed.arguments.Statement.{statement}
 use Rattle.cases.proofs.handed.arguments.Tie as tie
 
 abbrev Inv-loop : tie.InvT-loop
-Inv-loop line n regs room₀ ends₀ end₀ k₀ room ends end k = (k ≤ 7) × (length room ≡ length room₀) × (length ends ≡ 8)
+Inv-loop line n regs room₀ ends₀ end₀ k₀ room ends end k = (k ≤ 11) × (length room ≡ length room₀) × (length ends ≡ 12)
 
 abbrev μ-loop : tie.MeasureT-loop
-μ-loop line n regs room₀ ends₀ end₀ k₀ room ends end k = 7 - k
+μ-loop line n regs room₀ ends₀ end₀ k₀ room ends end k = 11 - k
 
 loop-holds : tie.Need-loop-holds Inv-loop μ-loop
 loop-holds c = search needs
