@@ -273,6 +273,12 @@ fn unsound() -> Vec<Vec<u8>> {
     change(&[(6, 8, 1), (7, 8, 1)]);
     change(&[(9, 8, 7)]);
     change(&[(5, 8, 1)]);
+    // syllables that never had a phone: alone, before others and behind them
+    for syllables in [&["1"][..], &["0", "1 k"], &["1 k", "0"]] {
+        let words = [word("a", syllables), word("b", &["1 s"])];
+        all.push(sheet(&in_order(&words[..1]), 128, 0));
+        all.push(sheet(&in_order(&words), 128, 0));
+    }
     all
 }
 

@@ -124,7 +124,7 @@ pub fn damaged(random: &mut Random, sheet: &[u8]) -> Vec<u8> {
         (link as u16).to_le_bytes()
     };
     let item = ITEM * random.between(usize::from(used > 0), used);
-    match random.below(16) {
+    match random.below(17) {
         0 => {
             let lengths = [0, ITEM - 1, LARGEST + 1, LARGEST + ITEM];
             sheet.resize(lengths[random.below(4)], 0);
@@ -164,13 +164,29 @@ pub fn damaged(random: &mut Random, sheet: &[u8]) -> Vec<u8> {
             let end = (17 + usize::from(len)).min(ITEM);
             sheet[item + 17..item + end].fill(b'x');
         }
-        14 if used + 1 < items => in_place_of(&mut sheet, item / ITEM, used + 1),
+        14 => return with_empty_syllable(random, &sheet),
+        15 if used + 1 < items => in_place_of(&mut sheet, item / ITEM, used + 1),
         _ => {
             let at = random.below(sheet.len());
             sheet[at] ^= 1 << random.below(8);
         }
     }
     sheet
+}
+
+/// The same words in their order, one syllable without its phones.
+fn with_empty_syllable(random: &mut Random, sheet: &[u8]) -> Vec<u8> {
+    let placed = sheets::read(sheet).unwrap_or_default();
+    let mut words: Vec<Word> = placed.into_iter().map(|placed| placed.word).collect();
+    let mut syllables: Vec<&mut Syllable> = words
+        .iter_mut()
+        .flat_map(|word| &mut word.syllables)
+        .collect();
+    if !syllables.is_empty() {
+        let at = random.below(syllables.len());
+        syllables[at].phones.clear();
+    }
+    sheets::write(sheet, &in_order(&words))
 }
 
 /// An unused item in the place of a used one, whose fields and links it gets.
