@@ -11,7 +11,7 @@ const FILES: [(&str, bool); 9] = [
     ("language", false),
     ("lexicon", true),
     ("phoneset", true),
-    ("pipeline", false),
+    ("pipeline", true),
     ("utterance", false),
     ("value", false),
 ];

@@ -37,6 +37,26 @@ pub fn to_record(random: &mut Random, phones: &Phones) -> Shape {
     }
 }
 
+/// A whole lexicon of a few entries.
+pub fn few(random: &mut Random, phones: &Phones) -> Shape {
+    plan(random, phones, 14)
+}
+
+/// A whole lexicon of a few entries, so that a list can hold many of them.
+pub fn few_to_record(random: &mut Random, phones: &Phones) -> Shape {
+    loop {
+        let shape = few(random, phones);
+        let Sections {
+            phones,
+            index,
+            data,
+        } = &shape.lexicon.sections;
+        if index.len() > 20 && data.len() < 400 && phones.len() < 400 {
+            return shape;
+        }
+    }
+}
+
 /// A lexicon that only names phones.
 pub fn of_phones(random: &mut Random, phones: &Phones) -> Lexicon {
     Lexicon::of(&names(random, phones), &[])

@@ -18,7 +18,11 @@ mod record;
 mod run;
 mod scene;
 mod shapes;
+mod sheet_edges;
+mod sheet_shapes;
+mod sheets;
 mod shrink;
+mod spoken;
 mod store_edges;
 mod store_shapes;
 mod stores;
@@ -26,13 +30,13 @@ mod tally;
 mod trees;
 mod words;
 
-use calls::{add_entries, add_entry, check_lexicon, is_sayable, is_vowel, lookup};
-use calls::{new_store, predict, split_stress, syllabify};
+use calls::{add_entries, add_entry, check_lexicon, is_sayable, is_vowel, lists, lookup};
+use calls::{new_sheet, new_store, phone_string, predict, say_word, split_stress, syllabify};
 use run::{Compared, Limit, Runner};
 use std::process::ExitCode;
 
 const USAGE: &str =
-    "usage: oracle [--calls N | --seconds N] [--seed N] [--record FOLDER --count N]";
+    "usage: oracle [--calls N | --seconds N | --lists N] [--seed N] [--record FOLDER --count N]";
 const DIFFERENT: u8 = 1;
 const MISUSED: u8 = 2;
 const NOT_MET: u8 = 3;
@@ -63,6 +67,24 @@ fn main() -> ExitCode {
         Box::new(Runner::new(add_entry::AddEntry::new(), seed)),
         Box::new(Runner::new(add_entries::AddEntries::new(), seed)),
     ];
+    // the recorded list needs no library
+    if ours::SHEETS || arguments.record.is_some() {
+        calls.push(Box::new(Runner::new(new_sheet::NewSheet, seed)));
+        calls.push(Box::new(Runner::new(say_word::SayWord::new(), seed)));
+        calls.push(Box::new(Runner::new(
+            phone_string::PhoneString::new(),
+            seed,
+        )));
+        calls.push(Box::new(Runner::new(lists::Lists::new(), seed)));
+    }
+    if let Limit::Lists(_) = arguments.limit {
+        // nothing else then
+        calls.drain(..calls.len() - 1);
+        if !ours::SHEETS {
+            eprintln!("the library has no sheets: see the feature `sheets` in Cargo.toml");
+            return ExitCode::from(MISUSED);
+        }
+    }
     if let Some(folder) = &arguments.record {
         return match record::write(&calls, folder, seed, arguments.count) {
             Ok(()) => ExitCode::SUCCESS,
@@ -97,6 +119,7 @@ fn arguments() -> Option<Arguments> {
         match word.as_str() {
             "--calls" => found.limit = Limit::Calls(value.parse().ok()?),
             "--seconds" => found.limit = Limit::Seconds(value.parse().ok()?),
+            "--lists" => found.limit = Limit::Lists(value.parse().ok()?),
             "--seed" => found.seed = value.parse().ok()?,
             "--record" => found.record = Some(value),
             "--count" => found.count = value.parse().ok()?,

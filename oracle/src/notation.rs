@@ -3,6 +3,7 @@
 
 use crate::cells::{cell, CELL};
 use crate::lexicons::Sections;
+use crate::sheets::ITEM;
 use crate::stores::{MOST_PHONES, SLOT};
 use crate::trees::phone_names;
 
@@ -71,6 +72,29 @@ pub fn store(store: &[u8]) -> String {
         }
         text += &pieces(&slot[..64]);
         text += &cells_of(&slot[64..], count);
+    }
+    or_dot(text + &pieces(behind))
+}
+
+/// A sheet: item by item up to the last that is used, with texts as such; then the bytes behind.
+pub fn sheet(sheet: &[u8]) -> String {
+    let used = match sheet.get(8..10) {
+        Some(used) => usize::from(u16::from_le_bytes([used[0], used[1]])),
+        None => 0,
+    };
+    let (front, behind) = sheet.split_at((ITEM * (used + 1)).min(sheet.len()));
+    let mut text = String::new();
+    for item in front.chunks(ITEM) {
+        // a text's length stands at 16, the text behind it
+        let len = item.get(16).map_or(0, |len| usize::from(*len));
+        match item.get(17..17 + len).and_then(|name| plain(name, b'>')) {
+            Some(name) => {
+                text += &pieces(&item[..16]);
+                text += &format!("<{name}>");
+                text += &pieces(&item[17 + len..]);
+            }
+            None => text += &pieces(item),
+        }
     }
     or_dot(text + &pieces(behind))
 }

@@ -112,6 +112,43 @@ extern "C" {
     ) -> Answer;
 }
 
+#[cfg(feature = "sheets")]
+#[link(name = "pronouncer", kind = "static")]
+extern "C" {
+    fn pronouncer_new_sheet(sheet: *mut u8, sheet_len: usize) -> Answer;
+    fn pronouncer_say_word(
+        lex_phones: *const u8,
+        lex_phones_len: usize,
+        lex_index: *const u8,
+        lex_index_len: usize,
+        lex_data: *const u8,
+        lex_data_len: usize,
+        lts_phones: *const u8,
+        lts_phones_len: usize,
+        lts_index: *const u8,
+        lts_index_len: usize,
+        lts_model: *const u8,
+        lts_model_len: usize,
+        store: *const u8,
+        store_len: usize,
+        sheet: *mut u8,
+        sheet_len: usize,
+        word: *const u8,
+        word_len: usize,
+        tag: *const u8,
+        tag_len: usize,
+    ) -> Answer;
+    fn pronouncer_phone_string(
+        sheet: *const u8,
+        sheet_len: usize,
+        out: *mut u8,
+        out_len: usize,
+    ) -> Answer;
+}
+
+/// Whether the library has the calls on sheets.
+pub const SHEETS: bool = cfg!(feature = "sheets");
+
 pub fn predict(phones: &[u8], index: &[u8], model: &[u8], word: &[u8], out: &mut [u8]) -> Answer {
     // SAFETY: each pointer and length is a whole slice; only `out` is written.
     unsafe {
@@ -252,3 +289,79 @@ pub fn add_entries(phones: &[u8], store: &mut [u8], spare: &mut [u8], text: &[u8
         )
     }
 }
+
+#[cfg(feature = "sheets")]
+pub fn new_sheet(sheet: &mut [u8]) -> Answer {
+    // SAFETY: pointer and length are a whole slice.
+    unsafe { pronouncer_new_sheet(sheet.as_mut_ptr(), sheet.len()) }
+}
+
+#[cfg(feature = "sheets")]
+pub fn say_word(
+    [lex_phones, lex_index, lex_data]: [&[u8]; 3],
+    [lts_phones, lts_index, lts_model]: [&[u8]; 3],
+    store: &[u8],
+    sheet: &mut [u8],
+    word: &[u8],
+    tag: &[u8],
+) -> Answer {
+    // SAFETY: each pointer and length is a whole slice; only `sheet` is written.
+    unsafe {
+        pronouncer_say_word(
+            lex_phones.as_ptr(),
+            lex_phones.len(),
+            lex_index.as_ptr(),
+            lex_index.len(),
+            lex_data.as_ptr(),
+            lex_data.len(),
+            lts_phones.as_ptr(),
+            lts_phones.len(),
+            lts_index.as_ptr(),
+            lts_index.len(),
+            lts_model.as_ptr(),
+            lts_model.len(),
+            store.as_ptr(),
+            store.len(),
+            sheet.as_mut_ptr(),
+            sheet.len(),
+            word.as_ptr(),
+            word.len(),
+            tag.as_ptr(),
+            tag.len(),
+        )
+    }
+}
+
+#[cfg(feature = "sheets")]
+pub fn phone_string(sheet: &[u8], out: &mut [u8]) -> Answer {
+    // SAFETY: each pointer and length is a whole slice; only `out` is written.
+    unsafe { pronouncer_phone_string(sheet.as_ptr(), sheet.len(), out.as_mut_ptr(), out.len()) }
+}
+
+/// The calls on sheets before the library has them; nobody calls these.
+#[cfg(not(feature = "sheets"))]
+mod without_sheets {
+    use super::Answer;
+
+    pub fn new_sheet(_: &mut [u8]) -> Answer {
+        unreachable!("the library has no sheets")
+    }
+
+    pub fn say_word(
+        _: [&[u8]; 3],
+        _: [&[u8]; 3],
+        _: &[u8],
+        _: &mut [u8],
+        _: &[u8],
+        _: &[u8],
+    ) -> Answer {
+        unreachable!("the library has no sheets")
+    }
+
+    pub fn phone_string(_: &[u8], _: &mut [u8]) -> Answer {
+        unreachable!("the library has no sheets")
+    }
+}
+
+#[cfg(not(feature = "sheets"))]
+pub use without_sheets::{new_sheet, phone_string, say_word};

@@ -13,6 +13,8 @@ const ROUND: usize = 10_000;
 pub enum Limit {
     Calls(usize),
     Seconds(u64),
+    /// Random lists of calls, behind the short ones.
+    Lists(usize),
 }
 
 /// One call of the interface and its counts.
@@ -175,6 +177,7 @@ pub fn run(calls: &mut [Box<dyn Compared>], limit: Limit) -> Result<(), String> 
     loop {
         let round = match limit {
             Limit::Calls(all) => all.saturating_sub(total(calls)).min(ROUND),
+            Limit::Lists(all) => (all + short).saturating_sub(total(calls)).min(ROUND),
             Limit::Seconds(all) if started.elapsed() < Duration::from_secs(all) => ROUND,
             Limit::Seconds(_) => 0,
         };

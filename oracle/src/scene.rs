@@ -61,6 +61,16 @@ impl Scene {
         }
     }
 
+    /// The same without the original, for a store that the library has made.
+    pub fn alone(lexicon: &Rc<Lexicon>, store: Vec<u8>) -> Scene {
+        Scene {
+            original: None,
+            lexicon: lexicon.clone(),
+            store,
+            entries: Err("not read"),
+        }
+    }
+
     /// The same lexicon beside another store.
     pub fn with_store(&self, store: Vec<u8>) -> Rc<Scene> {
         Rc::new(Scene::new(&self.lexicon, store))
@@ -174,7 +184,8 @@ fn with_entries(lexicon: &Lexicon, entries: &[Placed]) -> Held<lexicon::Lexicon>
     })
 }
 
-fn entry((tag, word, phones): &probe::Added) -> Entry {
+/// A runtime entry of the original.
+pub fn entry((tag, word, phones): &probe::Added) -> Entry {
     Entry {
         tag: u8::try_from(*tag).expect("tags are ASCII"),
         word: word.clone().into_bytes(),

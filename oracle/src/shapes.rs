@@ -94,6 +94,17 @@ pub fn to_record(random: &mut Random, shape: usize) -> Trees {
     Trees::new(plan.sections(), plan.alphabet)
 }
 
+/// Whole trees of a few nodes.
+pub fn few_to_record(random: &mut Random, shape: usize) -> Trees {
+    let plan = loop {
+        let plan = plan(random, shape % SHAPES, 24);
+        if (5..40).contains(&plan.names.len()) && (5..40).contains(&plan.nodes.len()) {
+            break plan;
+        }
+    };
+    Trees::new(plan.sections(), plan.alphabet)
+}
+
 /// The largest model: a chain over its 65,536 nodes, with so many leaves at the end of it. Half of
 /// the letters go through the whole of it, the others start near its end.
 pub fn deepest(random: &mut Random, leaves: usize) -> Trees {

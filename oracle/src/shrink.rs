@@ -2,9 +2,11 @@
 
 use crate::call::{Call, Expected, Outcome};
 use std::ops::Range;
+use std::time::{Duration, Instant};
 
-/// How many inputs are tried.
+/// How many inputs are tried, and for how long.
 const TRIES: usize = 50_000;
+const TIME: Duration = Duration::from_secs(30);
 
 /// A difference: what was expected and what the library did.
 pub struct Difference {
@@ -27,10 +29,11 @@ fn step<C: Call>(
     call: &C,
     input: &C::Input,
     tries: &mut usize,
+    started: Instant,
 ) -> Option<(C::Input, Box<Difference>)> {
     for candidate in call.smaller(input) {
         *tries += 1;
-        if *tries > TRIES {
+        if *tries > TRIES || started.elapsed() > TIME {
             return None;
         }
         if let Err(difference) = compare(call, &candidate) {
@@ -42,9 +45,9 @@ fn step<C: Call>(
 
 /// Leaves out of an input whatever can go while a difference stays; none if nothing can go.
 pub fn shrink<C: Call>(call: &C, input: &C::Input) -> Option<(C::Input, Box<Difference>)> {
-    let mut tries = 0;
-    let mut best = step(call, input, &mut tries)?;
-    while let Some(smaller) = step(call, &best.0, &mut tries) {
+    let (mut tries, started) = (0, Instant::now());
+    let mut best = step(call, input, &mut tries, started)?;
+    while let Some(smaller) = step(call, &best.0, &mut tries, started) {
         best = smaller;
     }
     Some(best)

@@ -41,9 +41,9 @@ const FAULTY: [&[u8]; 10] = [
 
 #[derive(Clone)]
 pub struct Input {
-    scene: Rc<Scene>,
-    spare: Vec<u8>,
-    text: Vec<u8>,
+    pub scene: Rc<Scene>,
+    pub spare: Vec<u8>,
+    pub text: Vec<u8>,
 }
 
 pub struct AddEntries {
@@ -63,6 +63,14 @@ impl AddEntries {
             scene: None,
             words: vec![],
             left: 0,
+        }
+    }
+
+    /// The same for entries of these words.
+    pub fn of_words(words: Vec<Vec<u8>>) -> AddEntries {
+        AddEntries {
+            words,
+            ..AddEntries::new()
         }
     }
 }
@@ -359,7 +367,7 @@ impl AddEntries {
     }
 
     /// Some lines, not all of them entries; one in so many is faulty.
-    fn text(&self, random: &mut Random, scene: &Scene, faulty: usize) -> Vec<u8> {
+    pub fn text(&self, random: &mut Random, scene: &Scene, faulty: usize) -> Vec<u8> {
         let mut text = vec![];
         for _ in 0..random.weighted(&[1, 4, 4, 3, 2, 1, 1]) {
             match random.weighted(&[20, 1, 2]) {
@@ -470,13 +478,8 @@ impl AddEntries {
 
     /// A text that is accepted, or stops at an error of the original; few take no line.
     fn to_record(&self, random: &mut Random, scene: &Rc<Scene>) -> Input {
-        let mut own = AddEntries::new();
-        own.words = vec![
-            b"a".to_vec(),
-            b"lead".to_vec(),
-            b"it's".to_vec(),
-            b"Z".to_vec(),
-        ];
+        let words = [&b"a"[..], b"lead", b"it's", b"Z"];
+        let own = AddEntries::of_words(words.map(|word| word.to_vec()).to_vec());
         let wanted = random.weighted(&[14, 5, 1]);
         loop {
             let input = Input {

@@ -27,12 +27,12 @@ const ADDS: usize = 60;
 
 #[derive(Clone)]
 pub struct Input {
-    scene: Rc<Scene>,
-    word: Vec<u8>,
-    tag: Vec<u8>,
-    cells: Vec<[u8; CELL]>,
+    pub scene: Rc<Scene>,
+    pub word: Vec<u8>,
+    pub tag: Vec<u8>,
+    pub cells: Vec<[u8; CELL]>,
     /// Bytes behind the last cell, fewer than a cell has.
-    rest: Vec<u8>,
+    pub rest: Vec<u8>,
 }
 
 pub struct AddEntry {
@@ -418,7 +418,7 @@ fn bytes(input: &Input) -> Vec<u8> {
 }
 
 /// Makes some adds refusable: one in three of them.
-fn spoil(random: &mut Random, input: &mut Input, phones: &Phones) {
+pub fn spoil(random: &mut Random, input: &mut Input, phones: &Phones) {
     if random.once_in(6) {
         input
             .cells

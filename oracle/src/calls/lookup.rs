@@ -19,13 +19,14 @@ use crate::shrink::shorter;
 use crate::store_shapes;
 use crate::stores::{self, UNSOUND};
 use crate::words;
-use rule::{features, rule};
+use rule::features;
+pub use rule::{rule, Source};
 use std::rc::Rc;
 
 /// How many words a lexicon with a store serves.
 const WORDS: usize = 40;
 /// The most phones that 01 lets be answered.
-const LONGEST: usize = 96;
+pub const LONGEST: usize = 96;
 
 #[derive(Clone)]
 pub struct Input {
@@ -160,7 +161,7 @@ impl Call for Lookup {
 
     fn expected(&self, input: &Input) -> Expected {
         let mut met = vec![];
-        let found = match rule(input, &mut met) {
+        let found = match rule(&input.scene, &input.word, &input.tag, &mut met) {
             Ok(found) => found,
             Err(refusal) => return Expected::refused(refusal, input.room.bytes(CELL), met),
         };
@@ -302,19 +303,9 @@ impl Call for Lookup {
 impl Lookup {
     /// A lexicon with a store, and words around both.
     fn begin(&mut self, random: &mut Random) {
-        let shape = lexicon_shapes::whole(random, &self.phones);
-        let lexicon = Rc::new(shape.lexicon);
-        let empty = Scene::new(&lexicon, stores::new(1, 0));
-        let store = store_shapes::random(random, &empty, &shape.words, &self.phones);
-        let entries = stores::read(&store).expect("the store is sound");
-        let lexicon = match random.once_in(5) {
-            true => Rc::new(lexicon_shapes::broken(random, &lexicon)),
-            false => lexicon,
-        };
-        self.words = shape.words;
-        let runtime = entries.iter().map(|placed| placed.entry.word.clone());
-        self.words.extend(runtime.take(30));
-        self.scene = Some(Rc::new(Scene::new(&lexicon, store)));
+        let (scene, words) = scene(random, &self.phones);
+        self.words = words;
+        self.scene = Some(scene);
         self.left = WORDS;
     }
 
@@ -327,7 +318,7 @@ impl Lookup {
                 tag: words::tag(random),
                 room: Room::to_record(random, 40),
             };
-            let fits = match rule(&input, &mut vec![]) {
+            let fits = match rule(scene, &input.word, &input.tag, &mut vec![]) {
                 Ok(Some((_, phones))) => phones.len() <= LONGEST,
                 Ok(None) => random.once_in(3),
                 Err(_) => false,
@@ -350,8 +341,25 @@ impl Lookup {
     }
 }
 
+/// A lexicon with a store, one in five of them broken in some way, and words around both.
+pub fn scene(random: &mut Random, phones: &Phones) -> (Rc<Scene>, Vec<Vec<u8>>) {
+    let shape = lexicon_shapes::whole(random, phones);
+    let lexicon = Rc::new(shape.lexicon);
+    let empty = Scene::new(&lexicon, stores::new(1, 0));
+    let store = store_shapes::random(random, &empty, &shape.words, phones);
+    let entries = stores::read(&store).expect("the store is sound");
+    let lexicon = match random.once_in(5) {
+        true => Rc::new(lexicon_shapes::broken(random, &lexicon)),
+        false => lexicon,
+    };
+    let mut words = shape.words;
+    let runtime = entries.iter().map(|placed| placed.entry.word.clone());
+    words.extend(runtime.take(30));
+    (Rc::new(Scene::new(&lexicon, store)), words)
+}
+
 /// The registers of a lexicon.
-fn registers(lexicon: &Lexicon) -> [String; 3] {
+pub fn registers(lexicon: &Lexicon) -> [String; 3] {
     let sections = &lexicon.sections;
     [
         format!("$0 {}", notation::phone_table(&sections.phones)),

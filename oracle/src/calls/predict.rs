@@ -118,7 +118,7 @@ impl Call for Predict {
 
     fn expected(&self, input: &Input) -> Expected {
         let mut met = vec![];
-        let refusal = refusal(input, &mut met);
+        let refusal = refusal(&input.trees, &input.word, &mut met);
         if refusal != 0 {
             return Expected::refused(refusal, input.room.bytes(CELL), vec![]);
         }
@@ -268,14 +268,14 @@ fn input(trees: &Rc<Trees>, word: Vec<u8>, size: Size) -> Input {
 }
 
 /// Which refusal 01 gives before an output matters; 0 if none. Tells what the walks met.
-fn refusal(input: &Input, met: &mut Vec<&'static str>) -> u32 {
-    let Some(names) = &input.trees.names else {
+pub fn refusal(trees: &Trees, given: &[u8], met: &mut Vec<&'static str>) -> u32 {
+    let Some(names) = &trees.names else {
         return 1;
     };
-    if words::is_refused(&input.word) {
+    if words::is_refused(given) {
         return 3;
     }
-    let word = input.word.to_ascii_lowercase();
+    let word = given.to_ascii_lowercase();
     let padded = [b"000#", &word[..], b"#000"].concat();
     let mut add = |row, is_met: bool| {
         if is_met && !met.contains(&row) {
@@ -286,7 +286,7 @@ fn refusal(input: &Input, met: &mut Vec<&'static str>) -> u32 {
     let first = stop.map_or(0, |at| at + 1);
     add("empty word", word.is_empty());
     add("word of 47 bytes", word.len() == words::LONGEST);
-    add("capital letter", word != input.word);
+    add("capital letter", word != given);
     add("'#' that stops", stop.is_some());
     for at in (first..word.len()).rev() {
         add("byte that is no letter", !word[at].is_ascii_lowercase());
@@ -299,14 +299,14 @@ fn refusal(input: &Input, met: &mut Vec<&'static str>) -> u32 {
         let features = [
             near[0], near[1], near[2], near[3], near[5], near[6], near[7], near[8],
         ];
-        let walk = input.trees.walk(&features, input.trees.start(word[at]));
+        let walk = trees.walk(&features, trees.start(word[at]));
         let Some(name) = walk.leaf.and_then(|leaf| names.get(leaf)) else {
             return 6;
         };
         add("question that matches", walk.matched);
         add("question that does not match", walk.other);
         add("question 8 to 254", walk.never);
-        add("walk over every node", walk.nodes == input.trees.nodes());
+        add("walk over every node", walk.nodes == trees.nodes());
         add("walk over 65,536 nodes", walk.nodes == 65_536);
         add("leaf number 255", walk.leaf == Some(255));
         match &name[..] {
@@ -315,12 +315,12 @@ fn refusal(input: &Input, met: &mut Vec<&'static str>) -> u32 {
             _ => add("leaf whole", true),
         }
     }
-    add("damage that is not walked", input.trees.has_damage);
+    add("damage that is not walked", trees.has_damage);
     0
 }
 
 /// Trees of one node, whose leaf is this phone.
-fn one_leaf(name: &[u8]) -> Trees {
+pub fn one_leaf(name: &[u8]) -> Trees {
     let sections = Sections {
         phones: phone_table(&[name.to_vec()]),
         index: index(&[0; 26]),
@@ -330,7 +330,7 @@ fn one_leaf(name: &[u8]) -> Trees {
 }
 
 /// Sections at 01's limits, and just past them.
-fn edges() -> Vec<Input> {
+pub fn limits() -> Vec<Rc<Trees>> {
     let good = one_leaf(b"x").sections;
     let mut all = vec![];
     let mut add = |change: &dyn Fn(&mut Sections)| {
@@ -377,8 +377,13 @@ fn edges() -> Vec<Input> {
         s.phones = phone_table(&vec![vec![b'p']; 256]);
         s.model = model(&[Node::leaf(255)]);
     });
+    all
+}
+
+/// Words on sections at 01's limits.
+fn edges() -> Vec<Input> {
     let mut inputs = vec![];
-    for trees in &all {
+    for trees in &limits() {
         for word in ["", "a#", "7", "a", "ab", "ba", "aab"] {
             for size in [Size::Exact, Size::More(1), Size::Short(1), Size::Short(16)] {
                 inputs.push(input(trees, word.into(), size));
@@ -409,7 +414,7 @@ fn plainer(word: &[u8]) -> impl Iterator<Item = Vec<u8>> + '_ {
 }
 
 /// Sections with nodes or phones left out, or plainer ones.
-fn smaller_trees(trees: &Trees) -> Vec<Sections> {
+pub fn smaller_trees(trees: &Trees) -> Vec<Sections> {
     let sections = &trees.sections;
     let mut all = vec![];
     if sections.index.len() > INDEX {

@@ -4,6 +4,7 @@
 use super::{Input, LONGEST};
 use crate::cells::CELL;
 use crate::lexicons::{Lexicon, Search};
+use crate::scene::Scene;
 use crate::store_edges;
 use crate::stores::{Entry, MOST_PHONES};
 use crate::words;
@@ -47,24 +48,29 @@ impl Wanted<'_> {
 }
 
 /// What 01 says before an answer's length matters. Tells what was met on the way.
-pub fn rule(input: &Input, met: &mut Vec<&'static str>) -> Result<Found, u32> {
-    let lexicon = &input.scene.lexicon;
+pub fn rule(
+    scene: &Scene,
+    word: &[u8],
+    tag: &[u8],
+    met: &mut Vec<&'static str>,
+) -> Result<Found, u32> {
+    let lexicon = &scene.lexicon;
     if !lexicon.has_form() {
         return Err(1);
     }
-    if let Err(why) = input.scene.entries {
+    if let Err(why) = scene.entries {
         met.push(why);
         return Err(2);
     }
-    if words::is_refused(&input.word) || words::is_refused(&input.tag) {
+    if words::is_refused(word) || words::is_refused(tag) {
         return Err(3);
     }
     let wanted = Wanted {
-        word: &input.word,
-        folded: input.word.to_ascii_lowercase(),
-        tag: input.tag.first().copied().unwrap_or(b'0'),
+        word,
+        folded: word.to_ascii_lowercase(),
+        tag: tag.first().copied().unwrap_or(b'0'),
     };
-    let entries = input.scene.entries().iter().map(|placed| &placed.entry);
+    let entries = scene.entries().iter().map(|placed| &placed.entry);
     let same: Vec<&Entry> = entries
         .filter(|entry| entry.word == wanted.folded)
         .collect();
@@ -91,7 +97,6 @@ pub fn rule(input: &Input, met: &mut Vec<&'static str>) -> Result<Found, u32> {
         Some((Source::Addenda, phones))
     } else {
         let found = compiled(&wanted, lexicon, search, met)?;
-        let word = wanted.word;
         let other = |row: Addendum| row.1 != word && row.1.eq_ignore_ascii_case(word);
         let same = addenda().any(|row| row.1 == word);
         add(met, "addenda: tag does not fit", same);

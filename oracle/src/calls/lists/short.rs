@@ -1,0 +1,96 @@
+//! The short lists: every list of up to four calls over a few of them.
+
+use super::{Act, Input, Sections, Step};
+use crate::calls::predict::one_leaf;
+use crate::cells::cell;
+use crate::lexicon_edges::row;
+use crate::lexicons::Lexicon;
+use crate::sheets::{ITEM, LARGEST};
+use crate::spoken::Wanted;
+use crate::stores::SLOT;
+use crate::trees::Trees;
+use crate::words;
+use std::rc::Rc;
+
+fn say(word: &str, tag: &str) -> Act {
+    Act::SayWord(Wanted {
+        word: word.into(),
+        tag: tag.into(),
+    })
+}
+
+fn add(word: &str, tag: &str, phones: &str) -> Act {
+    let phones = phones.split_whitespace();
+    Act::AddEntry {
+        word: word.into(),
+        tag: tag.into(),
+        cells: phones.map(|phone| cell(phone.as_bytes())).collect(),
+        rest: vec![],
+    }
+}
+
+fn text(text: &str) -> Act {
+    Act::AddText {
+        text: text.into(),
+        fill: 0x9e,
+        spare: None,
+    }
+}
+
+pub fn inputs() -> Vec<Input> {
+    let rows = [row("a", b'n', &[0]), row("c", b'n', &[1, 2, 1, 9])];
+    let lexicon = Rc::new(Lexicon::of(&["ey1", "t", "ax0"], &rows));
+    let trees = Rc::new(one_leaf(b"b-iy1"));
+    let mut cut = trees.sections.clone();
+    cut.index.truncate(51);
+    let sections = Sections::new(&lexicon, &trees);
+    let broken = Sections::new(&lexicon, &Rc::new(Trees::new(cut, vec![])));
+    let list = |steps: Vec<Step>, slots: usize, len: usize| Input {
+        sections: sections.clone(),
+        broken: broken.clone(),
+        store: vec![0xd1; SLOT * slots],
+        sheet: vec![0x4c; len],
+        steps,
+    };
+    // one of each answer, and words that the others change
+    let acts = [
+        Act::NewSheet,
+        say("a", ""),
+        say("B", "n"),
+        say(",", ""),
+        add("A", "", "k ae t"),
+        add("b", "n", "s"),
+        text("a:\nb n:ey1 ax0"),
+        text("b v:t\n:"),
+        say("c", ""),
+        say(&"a".repeat(48), ""),
+    ];
+    let numbers: Vec<u8> = (0..acts.len() as u8).collect();
+    let step = |n: &u8| Step {
+        act: acts[usize::from(*n)].clone(),
+        broken: false,
+    };
+    let mut inputs = vec![];
+    for (i, numbers) in words::every(&numbers, 4).iter().enumerate() {
+        // a sheet that is soon full, and one with room; one slot, or two, that entries can have
+        let len = [9 * ITEM + 5, 40 * ITEM][i % 2];
+        inputs.push(list(numbers.iter().map(step).collect(), 2 + i / 2 % 2, len));
+    }
+    // sheets of the shortest and the longest length
+    for len in [ITEM, 2 * ITEM - 1, 2 * ITEM, 4 * ITEM, LARGEST - 1, LARGEST] {
+        for slots in [1, 128] {
+            let steps: Vec<Step> = [4, 3, 1, 2, 1, 0, 3, 5, 2].iter().map(step).collect();
+            inputs.push(list(steps, slots, len));
+        }
+    }
+    // words up to the end of the largest sheet, and then others
+    let mut steps: Vec<Step> = vec![step(&1); 340];
+    steps.extend([2, 1, 3, 3, 3, 3, 0, 1].iter().map(step));
+    inputs.push(list(steps, 1, LARGEST));
+    // the broken sections in between
+    let mut steps: Vec<Step> = [1, 4, 1, 6, 2].iter().map(step).collect();
+    steps[2].broken = true;
+    steps[3].broken = true;
+    inputs.push(list(steps, 4, 40 * ITEM));
+    inputs
+}

@@ -1,0 +1,278 @@
+//! The short inputs of say_word.
+
+use super::Input;
+use crate::calls::predict::{self, one_leaf};
+use crate::lexicon_edges::{self, row};
+use crate::lexicon_shapes;
+use crate::lexicons::{Lexicon, Row};
+use crate::scene::Scene;
+use crate::sheet_edges::{self, in_order};
+use crate::sheets::ITEM;
+use crate::spoken::Wanted;
+use crate::store_edges;
+use crate::stores;
+use crate::trees::Trees;
+use crate::words;
+use std::rc::Rc;
+
+pub fn inputs() -> Vec<Input> {
+    let mut inputs = sheets();
+    inputs.extend(short_lists());
+    inputs.extend(exact_lengths());
+    inputs.extend(addenda());
+    inputs.extend(other_sections());
+    inputs.extend(edges());
+    inputs
+}
+
+fn input(scene: &Rc<Scene>, trees: &Rc<Trees>, sheet: Vec<u8>, word: &[u8], tag: &[u8]) -> Input {
+    Input {
+        scene: scene.clone(),
+        trees: trees.clone(),
+        sheet,
+        wanted: Wanted {
+            word: word.to_vec(),
+            tag: tag.to_vec(),
+        },
+    }
+}
+
+/// The good lexicon beside a store.
+fn good(store: Vec<u8>) -> Rc<Scene> {
+    let lexicon = Rc::new(Lexicon::new(lexicon_edges::good()));
+    Rc::new(Scene::new(&lexicon, store))
+}
+
+/// A new sheet of so many bytes.
+fn new_sheet(len: usize) -> Vec<u8> {
+    crate::sheets::new(&vec![0x6b; len])
+}
+
+/// Words with and without phones on every small sheet, and on sheets with one byte altered.
+fn sheets() -> Vec<Input> {
+    let scene = good(store_edges::good());
+    let trees = Rc::new(one_leaf(b"ey1-t"));
+    let mut inputs = vec![];
+    let sheets = sheet_edges::limits()
+        .into_iter()
+        .chain(sheet_edges::small());
+    for sheet in sheets {
+        for (word, tag) in [(",", ""), ("a", "v"), ("Lead", "v"), ("xx", ""), ("ab", "")] {
+            let (word, tag) = (word.as_bytes(), tag.as_bytes());
+            inputs.push(input(&scene, &trees, sheet.clone(), word, tag));
+        }
+    }
+    let altered = sheet_edges::altered_bytes().into_iter();
+    for (i, sheet) in altered.chain(sheet_edges::flipped()).enumerate() {
+        let word = [&b","[..], b"b"][i % 2];
+        inputs.push(input(&scene, &trees, sheet, word, b""));
+    }
+    inputs
+}
+
+/// Every list of up to three phones that the rules tell apart, each as a compiled entry, and 01's rehearsed ones.
+fn short_lists() -> Vec<Input> {
+    let names = [
+        "ae1", "ae0", "ae", "t", "t0", "t1", "s", "pau", "pau1", "ng", "", "0", "ax11", "ae2", "h",
+    ];
+    let numbers: Vec<u8> = (0..names.len() as u8).collect();
+    let rows: Vec<Row> = words::every(&numbers, 3)
+        .into_iter()
+        .enumerate()
+        .map(|(i, numbers)| row(&format!("w{i:05}"), b'n', &numbers))
+        .collect();
+    let lexicon = Rc::new(Lexicon::of(&names, &rows));
+    let adds = [
+        ("m0", ""),
+        ("m1", "k ae t"),
+        ("m2", "eh k s t r ax"),
+        ("m3", "s ih ng er"),
+        ("m4", "s t"),
+        ("m5", "t pau aa"),
+        ("m6", "ae t h r ax"),
+        ("m7", "ae t l ax"),
+    ];
+    let adds = adds.map(|(word, phones)| store_edges::add(word, "", phones));
+    let empty = Scene::new(&lexicon, stores::new(adds.len() + 1, 0));
+    let scene = empty.with_store(empty.grown(&adds));
+    let trees = Rc::new(one_leaf(b"x"));
+    let before = sheet_edges::word("z", &["1 z iy"]);
+    let sheets = [
+        new_sheet(9 * ITEM),
+        sheet_edges::sheet(&in_order(&[before]), 20 * ITEM, 0),
+    ];
+    let mut inputs = vec![];
+    for (i, row) in rows.iter().enumerate() {
+        inputs.push(input(
+            &scene,
+            &trees,
+            sheets[i % 2].clone(),
+            &row.word,
+            b"v",
+        ));
+    }
+    for add in &adds {
+        for sheet in &sheets {
+            inputs.push(input(&scene, &trees, sheet.clone(), &add.word, b"nil"));
+        }
+    }
+    inputs
+}
+
+/// Sheets about as long as a word needs them, behind other words and without.
+fn exact_lengths() -> Vec<Input> {
+    let rows = [
+        row("a", b'n', &[0]),
+        row("b", b'n', &[0, 1, 0, 1, 0]),
+        row("c", b'n', &[]),
+        row("d", b'n', &[0; 96]),
+        row("e", b'n', &[0; 97]),
+        row("f", b'n', &[1; 255]),
+    ];
+    let lexicon = Rc::new(Lexicon::of(&["ae1", "t"], &rows));
+    let scene = Rc::new(Scene::new(&lexicon, stores::new(1, 0)));
+    let trees = Rc::new(one_leaf(b"ey1-t"));
+    let words = [
+        ("a", 3),
+        ("b", 9),
+        ("c", 1),
+        ("d", 193),
+        ("e", 195),
+        ("f", 257),
+        (",", 1),
+        ("xyz", 10),
+        ("", 1),
+    ];
+    let mut inputs = vec![];
+    for (word, need) in words {
+        for used in [0, 1, 7] {
+            let before = vec![sheet_edges::word("w", &[]); used];
+            for unused in (0..=need + 1).filter(|n| n + 3 > need || *n < 2) {
+                for more in [0, 1, ITEM - 1] {
+                    let sheet = sheet_edges::sheet(&in_order(&before), ITEM * unused + more, 0x2e);
+                    inputs.push(input(&scene, &trees, sheet, word.as_bytes(), b""));
+                }
+            }
+        }
+        // the last items of the largest sheet
+        for unused in [0, need - 1, need, need + 1] {
+            let before = vec![sheet_edges::word("w", &[]); 1_023 - unused];
+            let sheet = sheet_edges::sheet(&in_order(&before), ITEM * unused, 0);
+            let shorter = sheet[..sheet.len() - 1].to_vec();
+            inputs.push(input(&scene, &trees, sheet, word.as_bytes(), b"n"));
+            inputs.push(input(&scene, &trees, shorter, word.as_bytes(), b"n"));
+        }
+    }
+    // 94 phones by letters
+    for (word, unused) in [(47, 142), (47, 143), (46, 139)] {
+        let (sheet, word) = (new_sheet(ITEM * unused), vec![b'a'; word]);
+        inputs.push(input(&scene, &trees, sheet, &word, b""));
+    }
+    inputs
+}
+
+/// Each of the addenda with some tags.
+fn addenda() -> Vec<Input> {
+    let scene = good(stores::new(2, 0xee));
+    let trees = Rc::new(one_leaf(b"zz"));
+    let mut inputs = vec![];
+    for word in lexicon_shapes::addenda() {
+        for tag in ["", "n", "p", "v", "s", "0", "nil", "x"] {
+            for word in [word.to_string(), word.to_uppercase()] {
+                let sheet = new_sheet(16 * ITEM);
+                inputs.push(input(
+                    &scene,
+                    &trees,
+                    sheet,
+                    word.as_bytes(),
+                    tag.as_bytes(),
+                ));
+            }
+        }
+    }
+    inputs
+}
+
+/// Stores with one byte altered, and every section at 01's limits; lower refusals before higher ones.
+fn other_sections() -> Vec<Input> {
+    let leaf = Rc::new(one_leaf(b"x"));
+    let scene = good(store_edges::good());
+    let mut inputs = vec![];
+    for (i, store) in store_edges::altered_bytes().into_iter().enumerate() {
+        let scene = scene.with_store(store);
+        let word = ["lead", "zz"][i % 2];
+        inputs.push(input(
+            &scene,
+            &leaf,
+            new_sheet(8 * ITEM),
+            word.as_bytes(),
+            b"",
+        ));
+    }
+    for store in store_edges::limits() {
+        let scene = scene.with_store(store);
+        for word in ["lead", "a", "w0", "in"] {
+            inputs.push(input(
+                &scene,
+                &leaf,
+                new_sheet(60 * ITEM),
+                word.as_bytes(),
+                b"",
+            ));
+        }
+    }
+    let unsound = vec![1; 128];
+    for lexicon in lexicon_edges::limits() {
+        let scene = scene.with_lexicon(&lexicon);
+        for word in ["a", "b", "ab", "", "in", "zz", "lead"] {
+            for sheet in [new_sheet(300 * ITEM), new_sheet(ITEM), unsound.clone()] {
+                inputs.push(input(&scene, &leaf, sheet, word.as_bytes(), b"n"));
+            }
+        }
+        inputs.push(input(&scene, &leaf, new_sheet(999), &[b'a'; 48], b"n"));
+    }
+    for lexicon in lexicon_edges::small(3) {
+        let scene = scene.with_lexicon(&lexicon);
+        for (word, tag) in [("a", ""), ("b", "n"), ("b", "q")] {
+            let (word, tag) = (word.as_bytes(), tag.as_bytes());
+            inputs.push(input(&scene, &leaf, new_sheet(5 * ITEM), word, tag));
+        }
+    }
+    for trees in predict::limits() {
+        for word in ["", "a#", "7", "a", "xy", "yx", "lead", ","] {
+            for sheet in [new_sheet(12 * ITEM), new_sheet(ITEM), unsound.clone()] {
+                inputs.push(input(&scene, &trees, sheet, word.as_bytes(), b""));
+            }
+        }
+        inputs.push(input(&scene, &trees, new_sheet(999), &[b'a'; 48], b""));
+    }
+    inputs
+}
+
+/// Words and tags at 01's limits, on stores and sheets that are sound and that are not.
+fn edges() -> Vec<Input> {
+    let leaf = Rc::new(one_leaf(b"x1-t"));
+    let scenes = [good(store_edges::good()), good(vec![1; 512])];
+    let sheets = [
+        sheet_edges::good(),
+        new_sheet(200 * ITEM),
+        new_sheet(ITEM),
+        vec![7; 64],
+        vec![],
+    ];
+    let mut inputs = vec![];
+    for scene in &scenes {
+        for sheet in &sheets {
+            for word in words::edges() {
+                inputs.push(input(scene, &leaf, sheet.clone(), &word, b""));
+            }
+            for tag in words::tags() {
+                for word in ["Lead", "b", "a", "in", "qq"] {
+                    let word = word.as_bytes();
+                    inputs.push(input(scene, &leaf, sheet.clone(), word, &tag));
+                }
+            }
+        }
+    }
+    inputs
+}

@@ -1,0 +1,300 @@
+//! Sheets for the short inputs: every small one, and sheets at 01's limits and just past them.
+
+use crate::sheets::{self, Placed, ITEM, LARGEST};
+use crate::spoken::{Syllable, Word};
+
+/// A word, and its syllables, each as its stress and its phones parted by blanks.
+pub fn word(text: &str, syllables: &[&str]) -> Word {
+    let syllable = |text: &&str| {
+        let mut parts = text.split(' ').map(|part| part.as_bytes().to_vec());
+        Syllable {
+            stress: parts.next().unwrap_or_default()[0],
+            phones: parts.collect(),
+        }
+    };
+    Word {
+        text: text.into(),
+        syllables: syllables.iter().map(syllable).collect(),
+    }
+}
+
+/// Words in items that follow each other.
+pub fn in_order(words: &[Word]) -> Vec<Placed> {
+    let mut used = 0;
+    let mut placed = vec![];
+    for word in words {
+        let items = used + 1..=used + word.items();
+        used = *items.end();
+        placed.push(Placed {
+            word: word.clone(),
+            items: items.collect(),
+        });
+    }
+    placed
+}
+
+/// A sheet of these words, with so many bytes behind them, which are all this one.
+pub fn sheet(placed: &[Placed], behind: usize, fill: u8) -> Vec<u8> {
+    let used: usize = placed.iter().map(|placed| placed.items.len()).sum();
+    sheets::write(&vec![fill; ITEM * (used + 1) + behind], placed)
+}
+
+/// Three words, one of them without phones, numbered from behind; two unused items and ten bytes more.
+pub fn good() -> Vec<u8> {
+    let mut placed = in_order(&[
+        word("it's", &["1 ih t s"]),
+        word(",", &[]),
+        word("Extra", &["1 eh k", "0 s t r ax"]),
+    ]);
+    let used: usize = placed.iter().map(|placed| placed.items.len()).sum();
+    for item in placed.iter_mut().flat_map(|placed| &mut placed.items) {
+        *item = used + 1 - *item;
+    }
+    sheet(&placed, 2 * ITEM + 10, 0xb7)
+}
+
+/// The smallest sheet with items of every kind.
+pub fn smallest() -> Vec<u8> {
+    sheet(&in_order(&[word("a", &["1 ey"])]), 0, 0)
+}
+
+/// The good sheet with each of its bytes altered.
+pub fn altered_bytes() -> Vec<Vec<u8>> {
+    let good = good();
+    let mut all = vec![];
+    for at in 0..good.len() {
+        let byte = good[at];
+        for value in [
+            0,
+            1,
+            2,
+            3,
+            15,
+            16,
+            47,
+            48,
+            49,
+            50,
+            255,
+            byte ^ 1,
+            byte.wrapping_add(1),
+        ] {
+            // many values only where there are fields
+            if value == byte || at % ITEM > 22 && value > 2 {
+                continue;
+            }
+            let mut sheet = good.clone();
+            sheet[at] = value;
+            all.push(sheet);
+        }
+    }
+    all
+}
+
+/// The smallest sheet with every value in each of its bytes.
+pub fn every_byte() -> Vec<Vec<u8>> {
+    let smallest = smallest();
+    let mut all = vec![];
+    for at in 0..smallest.len() {
+        for value in 0..=255 {
+            let mut sheet = smallest.clone();
+            sheet[at] = value;
+            all.push(sheet);
+        }
+    }
+    all
+}
+
+/// Sheets with the top bit of one byte flipped. That leaves no used item sound, whatever the byte was for, and
+/// alters nothing that is looked at behind them; the driver's reader must say so too.
+pub fn flipped() -> Vec<Vec<u8>> {
+    let mut all = vec![];
+    let new = sheet(&[], 100, 0);
+    for good in [good(), smallest(), new] {
+        for at in 0..good.len() {
+            let mut sheet = good.clone();
+            sheet[at] ^= 128;
+            let refused = sheets::read(&sheet).is_err();
+            assert!(refused == (at < sheets::unused(&good)), "byte {at}");
+            all.push(sheet);
+        }
+    }
+    all
+}
+
+/// Every sheet of one word, and of two, with up to two syllables of up to two phones; in their order, from
+/// behind, and with each two neighbours swapped. Some have room behind them.
+pub fn small() -> Vec<Vec<u8>> {
+    let syllables: [&[&str]; 5] = [
+        &[],
+        &["0 k"],
+        &["1 k t"],
+        &["0 k", "1 t"],
+        &["1 k t", "0 ae s"],
+    ];
+    let mut words: Vec<Vec<Word>> = vec![vec![]];
+    for first in syllables {
+        words.push(vec![word("a", first)]);
+        for second in syllables {
+            words.push(vec![word("a", first), word("B", second)]);
+        }
+    }
+    let mut all = vec![];
+    for (i, words) in words.iter().enumerate() {
+        let placed = in_order(words);
+        let used: usize = placed.iter().map(|placed| placed.items.len()).sum();
+        let renumbered = |number: &dyn Fn(usize) -> usize| {
+            let mut placed = placed.clone();
+            for item in placed.iter_mut().flat_map(|placed| &mut placed.items) {
+                *item = number(*item);
+            }
+            placed
+        };
+        all.push(sheet(&placed, 0, 0));
+        all.push(sheet(&placed, 64 * (i % 9) + i, 0xc4));
+        all.push(sheet(&renumbered(&|item| used + 1 - item), 640, 0));
+        for at in 1..used {
+            let swapped = |item| match item {
+                item if item == at => at + 1,
+                item if item == at + 1 => at,
+                item => item,
+            };
+            all.push(sheet(&renumbered(&swapped), 640 + at, 0x31));
+        }
+    }
+    all
+}
+
+/// Sheets at 01's limits, and just past them.
+pub fn limits() -> Vec<Vec<u8>> {
+    let good = good();
+    let mut all = vec![good.clone(), smallest()];
+    for len in [0, 1, 63, 64, 65, 127, 128, 129, 191, 192, 640] {
+        all.push(vec![0; len]);
+        let mut sheet = good.clone();
+        sheet.resize(len, 0);
+        all.push(sheet);
+    }
+    for len in [
+        LARGEST - ITEM,
+        LARGEST - 1,
+        LARGEST,
+        LARGEST + 1,
+        LARGEST + ITEM,
+        2 * LARGEST,
+    ] {
+        all.push(vec![0; len]);
+    }
+    // cut behind its last used item, within it, and before it
+    let used = sheets::unused(&good);
+    for len in [used + 63, used, used - 1, used - ITEM] {
+        all.push(good[..len].to_vec());
+    }
+    // every item used, or all but a few
+    for (words, more) in [(1_023, 0), (1_022, 64), (1_022, 63), (1_020, 255)] {
+        all.push(sheet(&in_order(&vec![word("", &[]); words]), more, 0x5a));
+    }
+    let phones = "1 ae t s r k n l d z b";
+    for words in [1_023 / 12, 1_000 / 12] {
+        let placed = in_order(&vec![word("long", &[phones]); words]);
+        let used = 12 * words;
+        all.push(sheet(&placed, LARGEST - ITEM * (used + 1), 0));
+    }
+    // longest texts, empty ones, and bytes that no word of a text has
+    let longest = word(&"w".repeat(47), &["0 abcdefghijklmno", "1 pppppppppppp111"]);
+    let empty = word("", &["0  ", "1 "]);
+    let odd = word("a\0 :\x7f", &["1 zz ae1 \x7f\0", "0 pau"]);
+    all.push(sheet(&in_order(&[longest, empty, odd]), 1_000, 0xff));
+    all.extend(unsound());
+    all
+}
+
+/// Sheets that break one part of what sound means, where altering one byte does not do it.
+fn unsound() -> Vec<Vec<u8>> {
+    // items: 1 a, 2 its syllable, 3 and 4 its phones; 5 b, 6 and 7 its syllables with the phones
+    // 8 behind 7 and 9 behind 6
+    let mut placed = in_order(&[word("a", &["1 k ae"]), word("b", &["0 t", "1 s"])]);
+    placed[1].items = vec![5, 6, 9, 7, 8];
+    let good = sheet(&placed, 128, 0);
+    let mut all = vec![good.clone()];
+    let mut change = |changes: &[(usize, usize, u8)]| {
+        let mut sheet = good.clone();
+        for (item, field, value) in changes {
+            sheet[ITEM * item + field] = *value;
+        }
+        all.push(sheet);
+    };
+    // the phones in another order: forwards, backwards, and both ways
+    change(&[(0, 12, 4), (4, 12, 3), (3, 12, 9)]);
+    change(&[(0, 10, 9), (9, 10, 8), (8, 10, 4)]);
+    change(&[
+        (3, 12, 8),
+        (8, 12, 9),
+        (9, 12, 0),
+        (0, 10, 9),
+        (9, 10, 8),
+        (8, 10, 3),
+    ]);
+    // a phone left out of both chains; a ring of phones
+    change(&[(3, 12, 9), (9, 10, 3)]);
+    change(&[(8, 12, 3), (3, 10, 8)]);
+    // the same child in two syllables; a syllable's phones under another one
+    change(&[(7, 4, 9), (7, 6, 9)]);
+    change(&[(6, 4, 8), (6, 6, 8), (7, 4, 9), (7, 6, 9)]);
+    // syllables in another order than their phones; words in another order
+    change(&[(5, 4, 7), (7, 2, 6), (6, 2, 0), (5, 6, 6)]);
+    change(&[(0, 4, 5), (5, 2, 1), (1, 2, 0), (0, 6, 1)]);
+    // the last word, the last syllable and the last phone left out
+    change(&[(0, 6, 1), (1, 2, 0)]);
+    change(&[(5, 6, 6), (6, 2, 0)]);
+    change(&[(2, 6, 3), (3, 2, 0)]);
+    change(&[(0, 6, 1), (1, 2, 0), (0, 8, 4), (4, 12, 0), (0, 10, 4)]);
+    // a syllable without its phone, which no chain reaches any more
+    change(&[(7, 4, 0), (7, 6, 0), (9, 12, 0), (0, 10, 9)]);
+    // an item more, or one less, than there are
+    change(&[(0, 8, 10)]);
+    change(&[(0, 8, 8)]);
+    // items behind the used ones, linked in the place of used ones
+    change(&[(0, 8, 0)]);
+    change(&[(0, 4, 0), (0, 6, 0), (0, 8, 0), (0, 10, 0), (0, 12, 0)]);
+    change(&[(0, 4, 0), (0, 6, 0), (0, 10, 0), (0, 12, 0)]);
+    // circles
+    change(&[(5, 2, 1)]);
+    change(&[(7, 2, 6)]);
+    change(&[(4, 2, 3)]);
+    change(&[(3, 2, 3)]);
+    change(&[(1, 2, 1)]);
+    // kinds exchanged, with their fields
+    change(&[(1, 0, 2), (1, 1, 48)]);
+    change(&[(2, 0, 1), (2, 1, 0)]);
+    change(&[(3, 0, 2), (3, 1, 48)]);
+    change(&[(1, 0, 4)]);
+    // parents of a neighbour
+    change(&[(6, 8, 1), (7, 8, 1)]);
+    change(&[(9, 8, 7)]);
+    change(&[(5, 8, 1)]);
+    // syllables that never had a phone: alone, before others and behind them
+    for syllables in [&["1"][..], &["0", "1 k"], &["1 k", "0"]] {
+        let words = [word("a", syllables), word("b", &["1 s"])];
+        all.push(sheet(&in_order(&words[..1]), 128, 0));
+        all.push(sheet(&in_order(&words), 128, 0));
+    }
+    all
+}
+
+/// What a sound sheet has, for the table.
+pub fn features(sheet: &[u8], words: &[Placed]) -> Vec<&'static str> {
+    let items = words.iter().flat_map(|placed| placed.items.iter().copied());
+    let ordered = (1..).zip(items).all(|(at, item)| at == item);
+    let unused = &sheet[sheets::unused(sheet)..];
+    let rows = [
+        ("sheet without words", words.is_empty()),
+        ("sheet in another order than its items", !ordered),
+        ("sheet of 64 bytes", sheet.len() == ITEM),
+        ("sheet of 65,536 bytes", sheet.len() == LARGEST),
+        ("bytes behind the last whole item", sheet.len() % ITEM != 0),
+        ("anything in unused items", unused.iter().any(|b| *b != 0)),
+    ];
+    let met = rows.iter().filter(|row| row.1);
+    met.map(|row| row.0).collect()
+}

@@ -1,0 +1,446 @@
+//! The sheet: 01's layout, read and written by the driver itself.
+
+use crate::spoken::{Syllable, Word};
+use crate::words;
+
+/// Bytes of an item.
+pub const ITEM: usize = 64;
+/// The longest sheet that 01 accepts.
+pub const LARGEST: usize = 65_536;
+/// The longest text of a phone.
+pub const LONGEST_PHONE: usize = 15;
+
+// The kinds of items.
+const WORD: u8 = 1;
+const SYLLABLE: u8 = 2;
+const PHONE: u8 = 3;
+
+// Where the fields of an item stand.
+const STRESS: usize = 1;
+const NEXT: usize = 2;
+const FIRST: usize = 4;
+const LAST: usize = 6;
+const PARENT: usize = 8;
+const BEFORE: usize = 10;
+const BEHIND: usize = 12;
+const LINKS_END: usize = 14;
+const LEN: usize = 16;
+const TEXT: usize = 17;
+/// In item 0 the number of used items stands where others have their parent.
+const USED: usize = PARENT;
+
+/// A word on its sheet, and its items: the word, a syllable, its phones, the next syllable.
+#[derive(Clone, PartialEq, Eq)]
+pub struct Placed {
+    pub word: Word,
+    pub items: Vec<usize>,
+}
+
+/// Why a sheet is refused by 2: the rows of the table that count it.
+pub const UNSOUND: &[&str] = &[
+    "sheet: wrong length",
+    "sheet: bytes beside item 0's fields",
+    "sheet: more used than there are items",
+    "sheet: link that leaves the used items",
+    "sheet: link back to an item",
+    "sheet: used item that no link reaches",
+    "sheet: wrong kind",
+    "sheet: wrong parent",
+    "sheet: 'last word' is another",
+    "sheet: 'last child' is another",
+    "sheet: stress that is neither 48 nor 49",
+    "sheet: syllable without a phone",
+    "sheet: word over 47 bytes",
+    "sheet: phone over 15 bytes",
+    "sheet: text with a high byte",
+    "sheet: bytes past a text",
+    "sheet: syllable with a text",
+    "sheet: stress of a word or a phone",
+    "sheet: child of a phone",
+    "sheet: phone links of a word or a syllable",
+    "sheet: bytes 14 and 15 of an item",
+    "sheet: phones forwards in another order",
+    "sheet: phones backwards in another order",
+];
+
+/// Whether a sheet's length is right.
+pub fn has_length(len: usize) -> bool {
+    (ITEM..=LARGEST).contains(&len)
+}
+
+/// The words of a sound sheet; of any other sheet, what is amiss.
+pub fn read(sheet: &[u8]) -> Result<Vec<Placed>, &'static str> {
+    if !has_length(sheet.len()) {
+        return Err("sheet: wrong length");
+    }
+    let items: Vec<&[u8]> = sheet.chunks_exact(ITEM).collect();
+    let used = number(&items[0][USED..]);
+    if !zeros(&items[0][..FIRST]) || !zeros(&items[0][LINKS_END..]) {
+        return Err("sheet: bytes beside item 0's fields");
+    }
+    if used >= items.len() {
+        return Err("sheet: more used than there are items");
+    }
+    let mut tree = Tree {
+        seen: vec![false; used + 1],
+        items,
+    };
+    let mut words = vec![];
+    let mut phones = vec![];
+    for at in tree.children(0, WORD)? {
+        let mut items = vec![at];
+        let mut syllables = vec![];
+        for at in tree.children(at, SYLLABLE)? {
+            let below = tree.children(at, PHONE)?;
+            if below.is_empty() {
+                return Err("sheet: syllable without a phone");
+            }
+            let texts: Result<_, _> = below.iter().map(|at| read_phone(tree.items[*at])).collect();
+            syllables.push(Syllable {
+                stress: read_syllable(tree.items[at])?,
+                phones: texts?,
+            });
+            items.push(at);
+            items.extend(&below);
+            phones.extend(below);
+        }
+        let text = read_word(tree.items[at])?;
+        let word = Word { text, syllables };
+        words.push(Placed { word, items });
+    }
+    if tree.seen[1..].contains(&false) {
+        return Err("sheet: used item that no link reaches");
+    }
+    // item 0 stands before the first phone and behind the last
+    let ring: Vec<usize> = [&[0], &phones[..], &[0]].concat();
+    for pair in ring.windows(2) {
+        if number(&tree.items[pair[0]][BEHIND..]) != pair[1] {
+            return Err("sheet: phones forwards in another order");
+        }
+        if number(&tree.items[pair[1]][BEFORE..]) != pair[0] {
+            return Err("sheet: phones backwards in another order");
+        }
+    }
+    Ok(words)
+}
+
+/// Items, and which of the used ones a link has reached.
+struct Tree<'a> {
+    items: Vec<&'a [u8]>,
+    seen: Vec<bool>,
+}
+
+impl Tree<'_> {
+    /// The children of an item in their order; those of item 0 are the words.
+    fn children(&mut self, parent: usize, kind: u8) -> Result<Vec<usize>, &'static str> {
+        let mut children = vec![];
+        let mut at = number(&self.items[parent][FIRST..]);
+        while at != 0 {
+            match self.seen.get_mut(at) {
+                None => return Err("sheet: link that leaves the used items"),
+                Some(true) => return Err("sheet: link back to an item"),
+                Some(seen) => *seen = true,
+            }
+            let item = self.items[at];
+            if item[0] != kind {
+                return Err("sheet: wrong kind");
+            }
+            if number(&item[PARENT..]) != parent {
+                return Err("sheet: wrong parent");
+            }
+            if !zeros(&item[LINKS_END..LEN]) {
+                return Err("sheet: bytes 14 and 15 of an item");
+            }
+            children.push(at);
+            at = number(&item[NEXT..]);
+        }
+        match children.last().unwrap_or(&0) {
+            last if *last == number(&self.items[parent][LAST..]) => Ok(children),
+            _ if parent == 0 => Err("sheet: 'last word' is another"),
+            _ => Err("sheet: 'last child' is another"),
+        }
+    }
+}
+
+fn read_word(item: &[u8]) -> Result<Vec<u8>, &'static str> {
+    if item[STRESS] != 0 {
+        return Err("sheet: stress of a word or a phone");
+    }
+    if !zeros(&item[BEFORE..LINKS_END]) {
+        return Err("sheet: phone links of a word or a syllable");
+    }
+    read_text(item, words::LONGEST).ok_or("sheet: word over 47 bytes")?
+}
+
+fn read_syllable(item: &[u8]) -> Result<u8, &'static str> {
+    if !zeros(&item[BEFORE..LINKS_END]) {
+        return Err("sheet: phone links of a word or a syllable");
+    }
+    if !zeros(&item[LEN..]) {
+        return Err("sheet: syllable with a text");
+    }
+    match item[STRESS] {
+        stress @ (b'0' | b'1') => Ok(stress),
+        _ => Err("sheet: stress that is neither 48 nor 49"),
+    }
+}
+
+fn read_phone(item: &[u8]) -> Result<Vec<u8>, &'static str> {
+    if item[STRESS] != 0 {
+        return Err("sheet: stress of a word or a phone");
+    }
+    if !zeros(&item[FIRST..PARENT]) {
+        return Err("sheet: child of a phone");
+    }
+    read_text(item, LONGEST_PHONE).ok_or("sheet: phone over 15 bytes")?
+}
+
+/// The text of an item, or what is amiss with it; none if it is too long.
+fn read_text(item: &[u8], longest: usize) -> Option<Result<Vec<u8>, &'static str>> {
+    let len = usize::from(item[LEN]);
+    if len > longest {
+        return None;
+    }
+    let (text, past) = item[TEXT..].split_at(len);
+    Some(match (text.is_ascii(), zeros(past)) {
+        (false, _) => Err("sheet: text with a high byte"),
+        (_, false) => Err("sheet: bytes past a text"),
+        _ => Ok(text.to_vec()),
+    })
+}
+
+/// An item before it is written.
+#[derive(Default)]
+struct Item<'a> {
+    kind: u8,
+    stress: u8,
+    next: usize,
+    children: &'a [usize],
+    parent: usize,
+    before: usize,
+    behind: usize,
+    text: &'a [u8],
+}
+
+impl Item<'_> {
+    fn put(&self, sheet: &mut [u8], at: usize) {
+        let item = &mut sheet[ITEM * at..][..ITEM];
+        item.fill(0);
+        item[0] = self.kind;
+        item[STRESS] = self.stress;
+        for (field, value) in [
+            (NEXT, self.next),
+            (FIRST, *self.children.first().unwrap_or(&0)),
+            (LAST, *self.children.last().unwrap_or(&0)),
+            (PARENT, self.parent),
+            (BEFORE, self.before),
+            (BEHIND, self.behind),
+        ] {
+            item[field..field + 2].copy_from_slice(&(value as u16).to_le_bytes());
+        }
+        item[LEN] = self.text.len() as u8;
+        item[TEXT..TEXT + self.text.len()].copy_from_slice(self.text);
+    }
+}
+
+impl Placed {
+    /// The syllables' items, each with those of its phones.
+    fn below(&self) -> Vec<(usize, &[usize])> {
+        let mut rest = &self.items[1..];
+        let part = |syllable: &Syllable| {
+            let (own, behind) = rest.split_at(1 + syllable.phones.len());
+            rest = behind;
+            (own[0], &own[1..])
+        };
+        self.word.syllables.iter().map(part).collect()
+    }
+}
+
+/// The sheet with these words in their items, which are 1 to so many. Every used item is written whole; the
+/// bytes behind stay as they are.
+pub fn write(sheet: &[u8], placed: &[Placed]) -> Vec<u8> {
+    let mut sheet = sheet.to_vec();
+    let words: Vec<usize> = placed.iter().map(|placed| placed.items[0]).collect();
+    let below: Vec<Vec<(usize, &[usize])>> = placed.iter().map(Placed::below).collect();
+    let phones: Vec<usize> = (below.iter().flatten())
+        .flat_map(|(_, phones)| phones.iter().copied())
+        .collect();
+    let at = |list: &[usize], i: usize| *list.get(i).unwrap_or(&0);
+    Item {
+        children: &words,
+        parent: placed.iter().map(|placed| placed.items.len()).sum(),
+        before: *phones.last().unwrap_or(&0),
+        behind: at(&phones, 0),
+        ..Item::default()
+    }
+    .put(&mut sheet, 0);
+    // how many phones were written before
+    let mut done = 0;
+    for (i, (placed, below)) in placed.iter().zip(&below).enumerate() {
+        let syllables: Vec<usize> = below.iter().map(|(syllable, _)| *syllable).collect();
+        Item {
+            kind: WORD,
+            next: at(&words, i + 1),
+            children: &syllables,
+            text: &placed.word.text,
+            ..Item::default()
+        }
+        .put(&mut sheet, words[i]);
+        for (j, (syllable, own)) in placed.word.syllables.iter().zip(below).enumerate() {
+            Item {
+                kind: SYLLABLE,
+                stress: syllable.stress,
+                next: at(&syllables, j + 1),
+                children: own.1,
+                parent: words[i],
+                ..Item::default()
+            }
+            .put(&mut sheet, own.0);
+            for (k, text) in syllable.phones.iter().enumerate() {
+                Item {
+                    kind: PHONE,
+                    next: at(own.1, k + 1),
+                    parent: own.0,
+                    before: if done == 0 { 0 } else { phones[done - 1] },
+                    behind: at(&phones, done + 1),
+                    text,
+                    ..Item::default()
+                }
+                .put(&mut sheet, own.1[k]);
+                done += 1;
+            }
+        }
+    }
+    sheet
+}
+
+/// The sheet with one more word, whose items are the next ones in their order. The driver checks itself: its
+/// reader must find what it wrote, and no byte may differ that the word has no part in.
+pub fn with_word(sheet: &[u8], before: &[Placed], word: &Word) -> Vec<u8> {
+    let used: usize = before.iter().map(|placed| placed.items.len()).sum();
+    let mut words = before.to_vec();
+    words.push(Placed {
+        word: word.clone(),
+        items: (used + 1..=used + word.items()).collect(),
+    });
+    let after = write(sheet, &words);
+    assert!(
+        read(&after).as_ref() == Ok(&words),
+        "the driver does not read what it wrote"
+    );
+    let ends = |list: &[Placed]| {
+        let word = list.last().map_or(0, |placed| placed.items[0]);
+        let phones = list.iter().flat_map(Placed::below);
+        let phone = phones.last().map_or(0, |(_, own)| own[own.len() - 1]);
+        (word, phone)
+    };
+    let (last_word, last_phone) = ends(before);
+    let touched = |at: usize| match (at / ITEM, at % ITEM) {
+        (0, field) => (FIRST..LINKS_END).contains(&field),
+        (item, _) if item > used => item <= used + word.items(),
+        (item, NEXT | 3) => item == last_word,
+        (item, BEHIND | 13) => item == last_phone,
+        _ => false,
+    };
+    let stray = (0..sheet.len()).find(|at| sheet[*at] != after[*at] && !touched(*at));
+    assert!(
+        stray.is_none(),
+        "the driver writes a byte that the word has no part in"
+    );
+    after
+}
+
+/// A new sheet over some bytes.
+pub fn new(bytes: &[u8]) -> Vec<u8> {
+    write(bytes, &[])
+}
+
+/// The items of a sheet that words can have.
+pub fn room(sheet: &[u8]) -> usize {
+    sheet.len() / ITEM - 1
+}
+
+/// Where the bytes start that stand behind the used items.
+pub fn unused(sheet: &[u8]) -> usize {
+    ITEM * (number(&sheet[USED..]) + 1)
+}
+
+/// What reading a sheet gives, by its links alone: the words, and the phones forwards and backwards.
+#[derive(PartialEq, Eq)]
+pub struct Reading {
+    pub words: Vec<Word>,
+    pub forwards: Vec<Vec<u8>>,
+    pub backwards: Vec<Vec<u8>>,
+}
+
+impl Reading {
+    /// What it should be, by what was said.
+    pub fn of(words: &[Word]) -> Reading {
+        let forwards: Vec<Vec<u8>> = words.iter().flat_map(Word::phones).cloned().collect();
+        Reading {
+            words: words.to_vec(),
+            backwards: forwards.iter().rev().cloned().collect(),
+            forwards,
+        }
+    }
+}
+
+/// Reads as 01 says at the end of its section on sheets: from item 0's first word and from a parent's first
+/// child on by next sibling, and along the phones both ways. None if a chain has no end or leaves the sheet, or
+/// if some item of kind 3 up to used is not met exactly once.
+pub fn reading(sheet: &[u8]) -> Option<Reading> {
+    let items: Vec<&[u8]> = sheet.chunks_exact(ITEM).collect();
+    let chain = |first: usize, link: usize| {
+        let mut chain = vec![];
+        let mut at = first;
+        while at != 0 {
+            if chain.len() > items.len() {
+                return None;
+            }
+            chain.push(at);
+            at = number(items.get(at)?.get(link..)?);
+        }
+        Some(chain)
+    };
+    let field = |item: usize, field: usize| number(&items[item][field..]);
+    let text = |item: &usize| {
+        let len = usize::from(items[*item][LEN]);
+        Some(items[*item].get(TEXT..TEXT + len)?.to_vec())
+    };
+    let texts = |chain: &[usize]| chain.iter().map(text).collect::<Option<Vec<_>>>();
+    let mut words = vec![];
+    let mut met = vec![];
+    for word in chain(field(0, FIRST), NEXT)? {
+        let mut syllables = vec![];
+        for syllable in chain(field(word, FIRST), NEXT)? {
+            let phones = chain(field(syllable, FIRST), NEXT)?;
+            syllables.push(Syllable {
+                stress: items[syllable][STRESS],
+                phones: texts(&phones)?,
+            });
+            met.extend(phones);
+        }
+        let text = text(&word)?;
+        words.push(Word { text, syllables });
+    }
+    met.sort();
+    let used = field(0, USED);
+    let is_phone = |at: &usize| items.get(*at).is_some_and(|item| item[0] == PHONE);
+    let phones = (1..=used).filter(is_phone);
+    if !phones.eq(met) {
+        return None;
+    }
+    Some(Reading {
+        words,
+        forwards: texts(&chain(field(0, BEHIND), BEHIND)?)?,
+        backwards: texts(&chain(field(0, BEFORE), BEFORE)?)?,
+    })
+}
+
+fn zeros(bytes: &[u8]) -> bool {
+    bytes.iter().all(|b| *b == 0)
+}
+
+fn number(bytes: &[u8]) -> usize {
+    usize::from(u16::from_le_bytes([bytes[0], bytes[1]]))
+}
