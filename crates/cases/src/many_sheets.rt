@@ -4,6 +4,7 @@ ghost use lib.ListN.{length};
 use crate::handed;
 use crate::handed::Given;
 use crate::read;
+use crate::sheets;
 
 // A byte with a step added to it; behind 255 comes 0.
 fn added(b: u8, step: u8) -> u8 {
@@ -62,4 +63,135 @@ pub fn run_damage_phone_string(line: &[u8], regs: &[u8], room: &mut [u8], out: &
     }
     let n = handed::load(out, handed::argument(room, given, 0));
     damage_phone_string_on(line, regs, room, given, &mut out[..n])
+}
+
+// A step added to byte k of a sheet.
+fn add_at(sheet: &mut [u8], k: usize, step: u8)
+    requires { ⌜ k < length (now sheet) ⌝ }
+{
+    sheet[k] = added(sheet[k], step);
+}
+
+// The step that takes a step back.
+fn back(step: u8) -> u8 {
+    added(255 - step, 1)
+}
+
+// The refusal of say word on a line's sheet with a step added to byte k, 0 where it is accepted; 255 where it is
+// refused and writes all the same.
+fn word_refusal(room: &[u8], given: Given, sheet: &mut [u8], k: usize, step: u8) -> u32
+    requires { ⌜ k < length (now sheet) ⌝ }
+{
+    handed::load(sheet, handed::argument(room, given, 7));
+    add_at(sheet, k, step);
+    let told = sheets::said(room, given, sheet).refusal;
+    if told == 0 {
+        return 0;
+    }
+    add_at(sheet, k, back(step));
+    if texts::same(sheet, handed::argument(room, given, 7)) {
+        return told;
+    }
+    255
+}
+
+// Whether say word is refused by the numbers wanted, one for each byte of a line's sheet.
+fn word_refusals(room: &[u8], given: Given, sheet: &mut [u8], step: u8, wanted: &[u8]) -> bool {
+    if wanted.len() != sheet.len() {
+        return false;
+    }
+    let mut k = 0;
+    while k < sheet.len() {
+        if word_refusal(room, given, sheet, k, step) != records::byte_at(wanted, k) as u32 {
+            return false;
+        }
+        k += 1;
+    }
+    true
+}
+
+// damage_say_word with its arguments read and its sheet loaded
+fn damage_say_word_on(
+    line: &[u8],
+    regs: &[u8],
+    room: &mut [u8],
+    given: Given,
+    sheet: &mut [u8],
+) -> bool {
+    let ends = given.ends;
+    let r = read::string(read::token(line, 13), regs, room, ends[11]);
+    if !r.ok {
+        return false;
+    }
+    let step = records::byte_at(handed::argument(room, given, 10), 0);
+    word_refusals(room, given, sheet, step, read::part(room, ends[11], r.end))
+}
+
+// damage_say_word, the arguments of say_word, STEP -> REFUSALS
+pub fn run_damage_say_word(line: &[u8], regs: &[u8], room: &mut [u8], out: &mut [u8]) -> bool {
+    let given = handed::arguments(line, 11, regs, room);
+    if !given.ok {
+        return false;
+    }
+    let n = handed::load(out, handed::argument(room, given, 7));
+    damage_say_word_on(line, regs, room, given, &mut out[..n])
+}
+
+// How often a word was said, and by which refusal that ended.
+struct Repeats {
+    count: usize,
+    refusal: u32,
+}
+
+// A line's word said again and again, up to the first time that is refused.
+fn say_on(room: &[u8], given: Given, sheet: &mut [u8]) -> Repeats {
+    let mut k = 0;
+    while k < 1024 {
+        let refusal = sheets::said(room, given, sheet).refusal;
+        if refusal != 0 {
+            return Repeats { count: k, refusal };
+        }
+        k += 1;
+    }
+    Repeats {
+        count: k,
+        refusal: 0,
+    }
+}
+
+// How many bytes the phone string of a sheet has, 65,536 where it is refused.
+fn string_length(sheet: &[u8]) -> u64 {
+    let mut out = [0u8; 16384];
+    let a = answers::told_joined(phonestring::phone_string(sheet, &mut out));
+    if a.refusal == 0 { a.value } else { 65536 }
+}
+
+// Whether these are the three numbers of a line.
+fn are_told(said: Repeats, bytes: u64, line: &[u8]) -> bool {
+    if said.count as u64 != read::number(read::token(line, 12)) {
+        return false;
+    }
+    if said.refusal as u64 != read::number(read::token(line, 13)) {
+        return false;
+    }
+    bytes == read::number(read::token(line, 14))
+}
+
+// fill_sheet with its arguments read and its sheet loaded
+fn fill_sheet_on(line: &[u8], room: &[u8], given: Given, sheet: &mut [u8]) -> bool {
+    if answers::told_done(utterance::new_sheet(sheet)).refusal != 0 {
+        return false;
+    }
+    let said = say_on(room, given, sheet);
+    are_told(said, string_length(sheet), line)
+}
+
+// fill_sheet, the arguments of say_word -> COUNT REFUSAL BYTES
+pub fn run_fill_sheet(line: &[u8], regs: &[u8], room: &mut [u8], out: &mut [u8]) -> bool {
+    let given = handed::arguments(line, 10, regs, room);
+    if !given.ok {
+        return false;
+    }
+    let n = handed::load(out, handed::argument(room, given, 7));
+    fill_sheet_on(line, room, given, &mut out[..n])
 }

@@ -143,8 +143,17 @@ fn run_sheets(line: &[u8], regs: &[u8], room: &mut [u8], out: &mut [u8]) -> bool
     if texts::same(name, b"phone_string") {
         return sheets::run_phone_string(line, regs, room, out);
     }
+    if texts::same(name, b"say_word") {
+        return sheets::run_say_word(line, regs, room, out);
+    }
     if texts::same(name, b"damage_phone_string") {
         return many_sheets::run_damage_phone_string(line, regs, room, out);
+    }
+    if texts::same(name, b"damage_say_word") {
+        return many_sheets::run_damage_say_word(line, regs, room, out);
+    }
+    if texts::same(name, b"fill_sheet") {
+        return many_sheets::run_fill_sheet(line, regs, room, out);
     }
     false
 }

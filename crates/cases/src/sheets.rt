@@ -1,6 +1,7 @@
 // The calls of the sheet, each with its arguments from a line of cases.
 use crate::handed;
 use crate::handed::Given;
+use answers::Answer;
 
 // new_sheet with its arguments read and its sheet loaded
 fn new_sheet_on(line: &[u8], regs: &[u8], room: &mut [u8], given: Given, sheet: &mut [u8]) -> bool {
@@ -44,4 +45,40 @@ pub fn run_phone_string(line: &[u8], regs: &[u8], room: &mut [u8], out: &mut [u8
     }
     let n = handed::load(out, handed::argument(room, given, 1));
     phone_string_on(line, regs, room, given, &mut out[..n])
+}
+
+// say_word with its arguments read and its sheet loaded
+fn say_word_on(line: &[u8], regs: &[u8], room: &mut [u8], given: Given, sheet: &mut [u8]) -> bool {
+    let a = said(room, given, sheet);
+    if !handed::agrees(a, line, 12) {
+        return false;
+    }
+    handed::as_told(sheet, line, 15, regs, room, given, 7)
+}
+
+// say_word LEX.PHONES LEX.INDEX LEX.DATA LTS.PHONES LTS.INDEX LTS.MODEL STORE SHEET WORD TAG -> REFUSAL KIND VALUE SHEET
+pub fn run_say_word(line: &[u8], regs: &[u8], room: &mut [u8], out: &mut [u8]) -> bool {
+    let given = handed::arguments(line, 10, regs, room);
+    if !given.ok {
+        return false;
+    }
+    let n = handed::load(out, handed::argument(room, given, 7));
+    say_word_on(line, regs, room, given, &mut out[..n])
+}
+
+// The answer of say_word on a sheet; its other arguments are those of a line, in the order there.
+pub fn said(room: &[u8], given: Given, sheet: &mut [u8]) -> Answer {
+    let a = pipeline::say_word(
+        handed::argument(room, given, 0),
+        handed::argument(room, given, 1),
+        handed::argument(room, given, 2),
+        handed::argument(room, given, 3),
+        handed::argument(room, given, 4),
+        handed::argument(room, given, 5),
+        handed::argument(room, given, 6),
+        sheet,
+        handed::argument(room, given, 8),
+        handed::argument(room, given, 9),
+    );
+    answers::told_said(a)
 }

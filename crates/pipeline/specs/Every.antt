@@ -56,7 +56,7 @@ pub record Passed (c : Sections) (store sheet word tag : List ℕ) : Type 0 wher
   pub lexicon : isLexicon (c .lexPhones) (c .lexIndex) ≡ true
   pub trees : isTrees (c .ltsPhones) (c .ltsIndex) (c .ltsModel) ≡ true
   pub text : isWord word ≡ true
-  pub answer : sayWord c store sheet word tag ≡ onSpokenAnswer c store sheet word tag (pronounced c (entries store) word tag)
+  pub answer : sayWord c store sheet word tag ≡ onSpokenAnswer sheet word (pronounced c (entries store) word tag)
 
 passed : (c : Sections) (store sheet word tag : List ℕ) → sayWord c store sheet word tag .refusal ≡ 0 → Passed c store sheet word tag
 unfolding sayWord
@@ -98,8 +98,8 @@ module _ (c : Sections) (s : State) (k : Book) (a : Agrees s k) where
       rw (e, z) a)
 
   -- a word that was accepted, by what it came to
-  heard : (word tag : List ℕ) (p : Spoken) → pronounced c (entries (s .store)) word tag ≡ p → Passed c (s .store) (s .sheet) word tag → onSpokenAnswer c (s .store) (s .sheet) word tag p .refusal ≡ 0
-      → Agrees (record { store = s .store; sheet = withSpoken c (s .store) (s .sheet) word tag p }) (record { entries = k .entries; words = k .words ++ onSpoken c word p })
+  heard : (word tag : List ℕ) (p : Spoken) → pronounced c (entries (s .store)) word tag ≡ p → Passed c (s .store) (s .sheet) word tag → onSpokenAnswer (s .sheet) word p .refusal ≡ 0
+      → Agrees (record { store = s .store; sheet = withSpoken (s .sheet) word p }) (record { entries = k .entries; words = k .words ++ onSpoken c word p })
   heard word tag (barred n) e t h = subst (λ (ws : List Word). Agrees (record { store = s .store; sheet = s .sheet }) (record { entries = k .entries; words = ws })) (sym (append-nil (k .words))) (record { store = a .store; entries = a .entries; sheet = a .sheet; words = a .words; cut = a .cut })
   heard word tag (phones ps) e t h =
       cases (isCrowded (s .sheet) (said word ps))
@@ -115,7 +115,7 @@ module _ (c : Sections) (s : State) (k : Book) (a : Agrees s k) where
       cases (eqb (sayWord c (s .store) (s .sheet) word tag .refusal) 0)
       (λ e. let r = eqb-true (sayWord c (s .store) (s .sheet) word tag .refusal) 0 e in
       let t = passed c (s .store) (s .sheet) word tag r in
-      let z : sheetAfter c (s .store) (s .sheet) word tag ≡ withSpoken c (s .store) (s .sheet) word tag (pronounced c (entries (s .store)) word tag) = unfold sheetAfter in rw e in
+      let z : sheetAfter c (s .store) (s .sheet) word tag ≡ withSpoken (s .sheet) word (pronounced c (entries (s .store)) word tag) = unfold sheetAfter in rw e in
       let y : pronounced c (entries (s .store)) word tag ≡ pronounced c (k .entries) word tag = ap (λ (es : List Entry). pronounced c es word tag) (a .entries) in
       rw (e, z, sym y) (heard word tag (pronounced c (entries (s .store)) word tag) refl t (sym (ap (λ (x : Answer). x .refusal) (t .answer)) ∙ r)))
       (λ e. let z : sheetAfter c (s .store) (s .sheet) word tag ≡ s .sheet = unfold sheetAfter in rw e in

@@ -11,3 +11,5 @@ pub mod Cutting
 pub mod ChosenSource
 pub mod BareCells
 pub mod CutLaws
+pub mod Handed
+pub mod Outcome

@@ -23,7 +23,8 @@ isCrowded sheet w = leb (items sheet) (used sheet + size w)
 abbrev pub placed : List ℕ → Word → Answer
 placed sheet w = if isCrowded sheet w then refused 9 0 else accepted 0 0
 
-module _ (c : Sections) (store sheet word tag : List ℕ) where
+-- the answer, and the sheet at exit, where only what the word comes to is left to decide
+module _ (sheet word : List ℕ) where
   abbrev pub onSpoken : Spoken → Answer
   onSpoken (barred n) = refused n 0
   onSpoken (phones ps) = placed sheet (said word ps)
@@ -32,13 +33,14 @@ module _ (c : Sections) (store sheet word tag : List ℕ) where
   withSpoken (barred n) = sheet
   withSpoken (phones ps) = appended sheet (said word ps)
 
+module _ (c : Sections) (store sheet word tag : List ℕ) where
   unfoldable pub sayWord : Answer
   sayWord =
       if not (isLexicon (c .lexPhones) (c .lexIndex) && isTrees (c .ltsPhones) (c .ltsIndex) (c .ltsModel)) then refused 1 0
       else if not (isSound store && isSheet sheet) then refused 2 0
       else if not (isWord word && isWord tag) then refused 3 0
-      else onSpoken (pronounced c (entries store) word tag)
+      else onSpoken sheet word (pronounced c (entries store) word tag)
 
   -- the sheet at exit
   unfoldable pub sheetAfter : List ℕ
-  sheetAfter = written sayWord sheet (withSpoken (pronounced c (entries store) word tag))
+  sheetAfter = written sayWord sheet (withSpoken sheet word (pronounced c (entries store) word tag))

@@ -15,6 +15,7 @@ ghost use Rattle.lexicon.specs.Adding.{addEntry, storeAfter};
 ghost use Rattle.addtext.specs.Call.{addEntries, storeAfter as storeBehind, spareAfter as spareBehind};
 ghost use Rattle.utterance.specs.Sheet.{newSheet, newBytes as newSheetBytes};
 ghost use Rattle.phonestring.specs.PhoneString.{phoneString, stringAfter};
+ghost use Rattle.pipeline.specs.SayWord.{sayWord, sheetAfter};
 use answers::Answer;
 
 // lex.phones, lex.index, lex.data
@@ -129,6 +130,37 @@ pub extern "C" fn pronouncer_phone_string(sheet: &[u8], out: &mut [u8]) -> Answe
     ensures { λ _. ⌜ now (out .exit) ≡ stringAfter (now (sheet .entry)) (now (out .entry)) ⌝ }
 {
     answers::told_joined(phonestring::phone_string(sheet, out))
+}
+
+// lex.phones, lex.index, lex.data, lts.phones, lts.index, lts.model, a store, a sheet, a word, a tag
+#[no_mangle]
+pub extern "C" fn pronouncer_say_word(
+    phones: &[u8],
+    index: &[u8],
+    dat: &[u8],
+    sounds: &[u8],
+    starts: &[u8],
+    model: &[u8],
+    store: &[u8],
+    sheet: &mut [u8],
+    word: &[u8],
+    tag: &[u8],
+) -> Answer
+    ensures { λ r. ⌜ r ≡ sayWord (record { lexPhones = now (phones .entry); lexIndex = now (index .entry); lexData = now (dat .entry); ltsPhones = now (sounds .entry); ltsIndex = now (starts .entry); ltsModel = now (model .entry) }) (now (store .entry)) (now (sheet .entry)) (now (word .entry)) (now (tag .entry)) ⌝ }
+    ensures { λ _. ⌜ now (sheet .exit) ≡ sheetAfter (record { lexPhones = now (phones .entry); lexIndex = now (index .entry); lexData = now (dat .entry); ltsPhones = now (sounds .entry); ltsIndex = now (starts .entry); ltsModel = now (model .entry) }) (now (store .entry)) (now (sheet .entry)) (now (word .entry)) (now (tag .entry)) ⌝ }
+{
+    answers::told_said(pipeline::say_word(
+        phones,
+        index,
+        dat,
+        sounds,
+        starts,
+        model,
+        store,
+        sheet,
+        word,
+        tag,
+    ))
 }
 
 // Whether a phone's text is a vowel: `kind` 1 or 0. Not one of the eleven calls.

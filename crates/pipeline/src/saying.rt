@@ -1,0 +1,137 @@
+// say word (01, Store and sheet): a word pronounced and put last on the sheet.
+ghost use mathlib.Core.Path.{_≡_};
+ghost use mathlib.Core.Bool.{true};
+ghost use Prim.Native.Nat.{_*_, _/_, _≤_};
+ghost use lib.ListN.{length};
+ghost use Rattle.cells.specs.Cells.{phonesOf};
+ghost use Rattle.store.specs.Store.{entries, isSound};
+ghost use Rattle.compiled.specs.Call.{isLexicon};
+ghost use Rattle.lts.specs.Letters.{isTrees};
+ghost use Rattle.utterance.specs.Sheet.{isSound as isSheet};
+ghost use Rattle.utterance.specs.Append.{appended};
+ghost use Rattle.answers.specs.Told.{toldSaid, written};
+ghost use Rattle.pipeline.specs.Pronounced.{pronounced, said as saidOf};
+ghost use Rattle.pipeline.specs.SayWord.{placed, onSpoken, withSpoken, sayWord, sheetAfter};
+use crate::cutting;
+use crate::pronouncing;
+use answers::Predicted;
+use answers::Refusal;
+use answers::Said;
+
+// A pronounced word put last on a sound sheet, if there is room; bare, marks and cuts are rooms to work in.
+fn put_cut(
+    sheet: &mut [u8],
+    word: &[u8],
+    phones: &[u8],
+    bare: &mut [u8],
+    marks: &mut [u8],
+    cuts: &mut [u8],
+) -> Said
+    requires { ⌜ (isSheet (now sheet) ≡ true) × (length (now word) ≤ 47) × (length (now phones) ≤ 1536) ⌝ }
+    requires { ⌜ (length (now bare) ≡ 1536) × (length (now marks) ≡ 96) × (length (now cuts) ≡ 96) ⌝ }
+    ensures { λ r. ⌜ toldSaid r ≡ placed (now (sheet .entry)) (saidOf (now (word .entry)) (phonesOf (now (phones .entry)))) ⌝ }
+    ensures { λ _. ⌜ now (sheet .exit) ≡ written (placed (now (sheet .entry)) (saidOf (now (word .entry)) (phonesOf (now (phones .entry))))) (now (sheet .entry)) (appended (now (sheet .entry)) (saidOf (now (word .entry)) (phonesOf (now (phones .entry))))) ⌝ }
+{
+    let n = phones.len() / 16;
+    cutting::prepare(phones, bare, marks, cuts);
+    let said = records::head(bare, 16 * n);
+    let ends = records::head(cuts, n);
+    let size = appending::size(said, ends);
+    let unused = sheet.len() / 64 - 1 - (utterance::used(sheet) as usize);
+    if unused < size {
+        return Said::Refused(Refusal::Short);
+    }
+    appending::append(sheet, word, said, ends);
+    Said::Accepted
+}
+
+// The same, with rooms of its own.
+fn put(sheet: &mut [u8], word: &[u8], phones: &[u8]) -> Said
+    requires { ⌜ (isSheet (now sheet) ≡ true) × (length (now word) ≤ 47) × (length (now phones) ≤ 1536) ⌝ }
+    ensures { λ r. ⌜ toldSaid r ≡ placed (now (sheet .entry)) (saidOf (now (word .entry)) (phonesOf (now (phones .entry)))) ⌝ }
+    ensures { λ _. ⌜ now (sheet .exit) ≡ written (placed (now (sheet .entry)) (saidOf (now (word .entry)) (phonesOf (now (phones .entry))))) (now (sheet .entry)) (appended (now (sheet .entry)) (saidOf (now (word .entry)) (phonesOf (now (phones .entry))))) ⌝ }
+{
+    let mut bare = [0u8; 1536];
+    let mut marks = [0u8; 96];
+    let mut cuts = [0u8; 96];
+    put_cut(sheet, word, phones, &mut bare, &mut marks, &mut cuts)
+}
+
+// A word pronounced and put last; room is for its phones.
+fn say(
+    phones: &[u8],
+    index: &[u8],
+    dat: &[u8],
+    sounds: &[u8],
+    starts: &[u8],
+    model: &[u8],
+    store: &[u8],
+    sheet: &mut [u8],
+    word: &[u8],
+    tag: &[u8],
+    room: &mut [u8],
+) -> Said
+    requires { ⌜ (isLexicon (now phones) (now index) ≡ true) × (isTrees (now sounds) (now starts) (now model) ≡ true) ⌝ }
+    requires { ⌜ (isSound (now store) ≡ true) × (isSheet (now sheet) ≡ true) × (length (now word) ≤ 47) × (length (now room) ≡ 1536) ⌝ }
+    ensures { λ r. ⌜ toldSaid r ≡ onSpoken (now (sheet .entry)) (now (word .entry)) (pronounced (record { lexPhones = now (phones .entry); lexIndex = now (index .entry); lexData = now (dat .entry); ltsPhones = now (sounds .entry); ltsIndex = now (starts .entry); ltsModel = now (model .entry) }) (entries (now (store .entry))) (now (word .entry)) (now (tag .entry))) ⌝ }
+    ensures { λ _. ⌜ now (sheet .exit) ≡ written (onSpoken (now (sheet .entry)) (now (word .entry)) (pronounced (record { lexPhones = now (phones .entry); lexIndex = now (index .entry); lexData = now (dat .entry); ltsPhones = now (sounds .entry); ltsIndex = now (starts .entry); ltsModel = now (model .entry) }) (entries (now (store .entry))) (now (word .entry)) (now (tag .entry)))) (now (sheet .entry)) (withSpoken (now (sheet .entry)) (now (word .entry)) (pronounced (record { lexPhones = now (phones .entry); lexIndex = now (index .entry); lexData = now (dat .entry); ltsPhones = now (sounds .entry); ltsIndex = now (starts .entry); ltsModel = now (model .entry) }) (entries (now (store .entry))) (now (word .entry)) (now (tag .entry)))) ⌝ }
+{
+    match pronouncing::pronounce(
+        phones,
+        index,
+        dat,
+        sounds,
+        starts,
+        model,
+        store,
+        word,
+        tag,
+        room,
+    ) {
+        Predicted::Refused(r) => Said::Refused(r),
+        Predicted::Phones(n) => put(sheet, word, records::head(room, 16 * n)),
+    }
+}
+
+pub fn say_word(
+    phones: &[u8],
+    index: &[u8],
+    dat: &[u8],
+    sounds: &[u8],
+    starts: &[u8],
+    model: &[u8],
+    store: &[u8],
+    sheet: &mut [u8],
+    word: &[u8],
+    tag: &[u8],
+) -> Said
+    ensures { λ r. ⌜ toldSaid r ≡ sayWord (record { lexPhones = now (phones .entry); lexIndex = now (index .entry); lexData = now (dat .entry); ltsPhones = now (sounds .entry); ltsIndex = now (starts .entry); ltsModel = now (model .entry) }) (now (store .entry)) (now (sheet .entry)) (now (word .entry)) (now (tag .entry)) ⌝ }
+    ensures { λ _. ⌜ now (sheet .exit) ≡ sheetAfter (record { lexPhones = now (phones .entry); lexIndex = now (index .entry); lexData = now (dat .entry); ltsPhones = now (sounds .entry); ltsIndex = now (starts .entry); ltsModel = now (model .entry) }) (now (store .entry)) (now (sheet .entry)) (now (word .entry)) (now (tag .entry)) ⌝ }
+{
+    if !texts::both(
+        compiled::is_lexicon(phones, index),
+        lts::are_trees(sounds, starts, model),
+    ) {
+        return Said::Refused(Refusal::Section);
+    }
+    if !texts::both(store::is_sound(store), utterance::is_sound(sheet)) {
+        return Said::Refused(Refusal::Unsound);
+    }
+    if !texts::both(texts::is_word(word), texts::is_word(tag)) {
+        return Said::Refused(Refusal::Text);
+    }
+    let mut room = [0u8; 1536];
+    say(
+        phones,
+        index,
+        dat,
+        sounds,
+        starts,
+        model,
+        store,
+        sheet,
+        word,
+        tag,
+        &mut room,
+    )
+}
