@@ -8,19 +8,14 @@ use mathlib.Core.Bool.{Bool, true, false, _&&_}
 use mathlib.Core.List.{List, [], _∷_}
 use lib.Dec.{leb, eqb}
 use lib.ListN.{length, getD}
-use borrow.Author.Tests.{leb-true, le-leb, ltb-true}
+use borrow.Author.Tests.{leb-true, ltb-true}
 use Rattle.texts.specs.Choice.{both-true, cases, never}
 use Rattle.texts.specs.Lists.{every, every-at, some, place}
-use Rattle.texts.specs.Text.{ascii, same, same-true}
+use Rattle.texts.specs.Text.{ascii, same, same-true, isPhone, phone-from}
 use Rattle.phoneset.specs.Phones.{Phone, phones, noPhone, rowOf, isKnown}
 use Rattle.phoneset.specs.Rules.{fits, phones-fit, phone-count}
 use Rattle.data.specs.Sections.{isPhoneTable, tablePhones, isListed, length-table, table-fits}
-use Rattle.slots.specs.Slot.{isPhone}
 use Rattle.lexicon.specs.Adding.{mayAdd}
-
-phone-from : (p : List ℕ) → length p ≤ 15 → ascii p ≡ true → isPhone p ≡ true
-unfolding isPhone
-phone-from p l a = rw (le-leb (length p) 15 l, a)
 
 row-phone : (r : Phone) → fits r ≡ true → isPhone (r .name) ≡ true
 row-phone r h =

@@ -1,12 +1,10 @@
 -- The lines from a place in a text on: the first of them, then those behind it.
 -- Assumes nothing.
 use Prim.Native.Nat.{ℕ, suc, _+_, _≤_, _<_}
-use native.Mathlib.Omega.{arith}
 use mathlib.Core.Path.{_≡_, ap, _∙_}
-use mathlib.Core.List.{List, _∷_, append-nil}
+use mathlib.Core.List.{List, _∷_}
 use lib.ListN.{length, getD, drop, drop-of-length-le}
-use lib.Seq.{drop-cons, paste}
-use Rattle.records.specs.Records.{paste-front}
+use lib.Seq.{drop-cons}
 use Rattle.lines.specs.Lines.{firstLine, afterLine, linesOf, lines}
 use Rattle.lines.specs.Turns.{lines-more}
 use Rattle.answers.specs.Told.{accepted}
@@ -27,7 +25,3 @@ module _ (text : List ℕ) (at : ℕ) where
     pub filled-end : length text ≤ at → filled table store n k (lines (drop at text)) ≡ record { answer = accepted 0 k; store = store }
     unfolding filled lines linesOf
     filled-end h = rw (drop-of-length-le text h)
-
--- a copy as long as the whole leaves nothing of it
-pub paste-whole : (d s : List ℕ) → length d ≡ length s → paste d 0 s (length s) ≡ s
-paste-whole d s h = let l : length d ≤ length s = omega arith in paste-front d s ∙ rw (drop-of-length-le d l) (append-nil s)

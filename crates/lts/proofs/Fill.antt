@@ -1,9 +1,9 @@
 -- How the padded word and the window of a letter are filled in. Assumes nothing.
-use Prim.Native.Nat.{ℕ, zero, suc, _+_, _-_, _≤_, _<_}
+use Prim.Native.Nat.{ℕ, suc, _+_, _-_, _≤_, _<_}
 use native.Mathlib.Numerals.{add-one}
 use native.Mathlib.Omega.{arith}
-use mathlib.Core.Path.{_≡_, refl, sym, ap, _∙_}
-use mathlib.Core.List.{List, [], _∷_, _++_, map, append-assoc, append-nil}
+use mathlib.Core.Path.{_≡_, sym, ap, _∙_}
+use mathlib.Core.List.{List, [], _∷_, _++_, map, map-append, append-assoc, append-nil}
 use lib.ListN.{length, getD, take, drop, set, replicate, length-append, length-map, length-drop, drop-of-length-le}
 use lib.Seq.{take-suc, take-at, set-at, append-snoc, take-length, take-all, length-take-le, paste}
 use Rattle.texts.specs.Text.{bytes, folded}
@@ -12,10 +12,6 @@ use Rattle.lts.specs.Letters.{padded, window}
 -- the front of the text once i bytes of the word are in it
 abbrev pub front : List ℕ → ℕ → List ℕ
 front word i = bytes "000#" ++ map folded (take i word)
-
-map-append : (f : ℕ → ℕ) (xs ys : List ℕ) → map f (xs ++ ys) ≡ map f xs ++ map f ys
-map-append f [] ys = refl
-map-append f (x ∷ xs) ys = ap (λ (l : List ℕ). f x ∷ l) (map-append f xs ys)
 
 front-length : (word : List ℕ) (i : ℕ) → i ≤ length word → length (front word i) ≡ 4 + i
 front-length word i h = omega (arith, length-map (take i word) folded, length-take-le i word h)

@@ -11,11 +11,10 @@ use lib.Seq.{paste, paste-zero, take-length, take-append-seam}
 use borrow.Author.Tests.{eq-eqb, ne-eqb}
 use Rattle.texts.specs.Choice.{if_then_else_, cases}
 use Rattle.records.specs.Records.{recordAt, paste-more, paste-turn}
-use Rattle.records.specs.Chain.{chain}
+use Rattle.records.specs.Chain.{chain, chain-turn, chain-stop, chain-end}
 use Rattle.items.specs.Item.{itemOf}
 use Rattle.utterance.specs.Tree.{follow, textAt}
 use Rattle.utterance.specs.Sheet.{at, used}
-use Rattle.utterance.specs.Turns.{chain-turn, chain-stop, chain-end}
 use Rattle.phonestring.specs.PhoneString.{phones, led, spaced, string}
 
 -- a blank, unless item p is item 0, behind which the first phone stands
@@ -50,7 +49,7 @@ module _ (b : List ℕ) where
 
   pub rest-stop : (left p q : ℕ) → q ≡ at b p .follow → q ≡ 0 → rest b left p ≡ []
   unfolding rest follow
-  rest-stop left p q e z = ap (λ (l : List ℕ). behind p (map (textAt (at b)) l)) (chain-stop (follow (at b)) left p q e z) ∙ behind-nil p
+  rest-stop left p q e z = ap (λ (l : List ℕ). behind p (map (textAt (at b)) l)) (chain-stop (follow (at b)) left p (sym e ∙ z)) ∙ behind-nil p
 
   pub rest-end : (left p : ℕ) → left ≤ 0 → rest b left p ≡ []
   unfolding rest

@@ -3,7 +3,7 @@
 use Prim.Native.Nat.{ℕ, _≤_}
 use mathlib.Core.Path.{_≡_, refl, sym, ap, _∙_, subst}
 use mathlib.Core.Bool.{true}
-use mathlib.Core.List.{List, [], _∷_, _++_, map, reverse}
+use mathlib.Core.List.{List, [], _∷_, _++_, map, reverse, map-append}
 use lib.Dec.{eqb}
 use Rattle.texts.specs.Lists.{some as any}
 use Rattle.records.specs.Chain.{Distinct, chain}
@@ -43,10 +43,6 @@ pub record Tells (sheet : List ℕ) (words : List Word) : Type 0 where
   pub cut : Each WellCut words
 
 -- the texts of the phone items are the words' phones
-map-append : (f : ℕ → List ℕ) (xs ys : List ℕ) → map f (xs ++ ys) ≡ map f xs ++ map f ys
-map-append f [] ys = refl
-map-append f (x ∷ xs) ys = ap (λ (l : List (List ℕ)). f x ∷ l) (map-append f xs ys)
-
 module _ (S : ℕ → Item) where
   syllables-told : (ys : List SyllableAt) → map (textAt S) (phonesUnder ys) ≡ together (groupsOf (map (syllableAt S) ys))
   syllables-told [] = refl

@@ -11,16 +11,16 @@ use lib.ListN.{length, take, length-take, length-map}
 use borrow.Author.Tests.{leb-true, le-leb}
 use Rattle.texts.specs.Choice.{if_then_else_, both-true, cases, never}
 use Rattle.texts.specs.Lists.{every, some as someOf}
-use Rattle.texts.specs.Text.{ascii, isWord}
+use Rattle.texts.specs.Text.{ascii, isWord, isPhone}
 use Rattle.lines.specs.Ascii.{ascii-take}
 use Rattle.phoneset.specs.Stress.{digits, lastByte, isStressed, stress, bare}
 use Rattle.onsets.specs.Onsets.{onsets}
-use Rattle.slots.specs.Slot.{Entry, isPhone, fits}
+use Rattle.slots.specs.Slot.{Entry, fits}
 use Rattle.syllabify.specs.Syllables.{marks, syllables, onFirst}
 use Rattle.lts.specs.Letters.{letters, isTrees, trees-table}
 use Rattle.compiled.specs.Call.{isLexicon, lexicon-table}
 use Rattle.lexicon.specs.Lookup.{Finding, nothing, damaged, found, find, wantedTag}
-use Rattle.utterance.specs.Append.{isPhone as isTold, isSyllable, isSaid}
+use Rattle.utterance.specs.Append.{isSyllable, isSaid}
 use Rattle.pipeline.specs.Pronounced.{Sections, Spoken, barred, phones, onFinding, pronounced, lastStress, sung, said}
 use Rattle.pipeline.specs.Sources.{Fit, AreFit, find-fit, letters-fit}
 
@@ -42,8 +42,8 @@ last-stress d [] h = h
 last-stress d (p ∷ ps) h = last-stress (if isStressed digits p then stress digits p else d) ps (cases (isStressed digits p) (λ e. rw e (digit p e)) (λ e. rw e h))
 
 -- the bare phone is a front part
-bare-fits : (p : List ℕ) → isPhone p ≡ true → isTold (bare digits p) ≡ true
-unfolding bare isPhone isTold
+bare-fits : (p : List ℕ) → isPhone p ≡ true → isPhone (bare digits p) ≡ true
+unfolding bare isPhone
 bare-fits p h =
     let b = both-true (leb (length p) 15) (ascii p) h in
     let l = leb-true (length p) 15 (b .0) in
@@ -52,7 +52,7 @@ bare-fits p h =
     (λ e. rw (e, le-leb (length (take (length p - 1) p)) 15 (omega arith), ascii-take (length p - 1) p (b .1)))
     (λ e. rw (e, b .0, b .1))
 
-bares-fit : (ps : List (List ℕ)) → every isPhone ps ≡ true → every isTold (map (bare digits) ps) ≡ true
+bares-fit : (ps : List (List ℕ)) → every isPhone ps ≡ true → every isPhone (map (bare digits) ps) ≡ true
 unfolding every
 bares-fit [] h = refl
 bares-fit (p ∷ ps) h = let b = both-true (isPhone p) (every isPhone ps) h in rw (bare-fits p (b .0)) (bares-fit ps (b .1))

@@ -1,3 +1,4 @@
+-- To believe: Pronounced and SayWord say what say word does, Calls and Book what a list of calls and its book are, Claim what is claimed. Every proves it; the others are laws, and Cutting the word in bytes.
 pub mod Pronounced
 pub mod SayWord
 pub mod Calls

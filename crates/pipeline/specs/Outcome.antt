@@ -10,9 +10,10 @@ use mathlib.Core.Option.{Option, none, some}
 use lib.Dec.{eqb, ltb}
 use lib.ListN.{length, take, drop, length-append}
 use Rattle.texts.specs.Choice.{cases}
+use Rattle.texts.specs.Text.{isPhone}
 use Rattle.texts.specs.Lists.{every}
 use Rattle.cells.specs.Cells.{phonesOf, cellsOf, length-cellsOf}
-use Rattle.slots.specs.Slot.{Entry, isPhone}
+use Rattle.slots.specs.Slot.{Entry}
 use Rattle.lts.specs.Letters.{letters}
 use Rattle.lexicon.specs.Lookup.{Finding, nothing, damaged, found, find, wantedTag}
 use Rattle.addtext.specs.Phones.{phone-short}

@@ -11,7 +11,7 @@ use lib.ListN.{length, getD, take, drop, length-take, length-drop, length-append
 use borrow.Author.Tests.{leb-true, le-leb, leb-false}
 use Rattle.texts.specs.Choice.{both-true, cases}
 use Rattle.texts.specs.Lists.{every, first, place}
-use Rattle.texts.specs.Text.{bytes, folded, ascii, is, same}
+use Rattle.texts.specs.Text.{bytes, folded, ascii, is, same, isPhone, phone-from}
 use Rattle.lines.specs.Ascii.{ascii-take, ascii-drop}
 use Rattle.records.specs.Records.{recordAt}
 use Rattle.records.specs.Fields.{u16At, u32At}
@@ -20,7 +20,7 @@ use Rattle.addenda.specs.Addenda.{Addendum, addenda}
 use Rattle.addenda.specs.Rules.{phoneFits, addenda-fit, fits as rowFits}
 use Rattle.addenda.specs.Find.{isMeant}
 use Rattle.data.specs.Sections.{isPhoneTable, tablePhones, length-table, table-fits}
-use Rattle.slots.specs.Slot.{Entry, isPhone, fits, fits-parts, entryOf, slot, isSlot}
+use Rattle.slots.specs.Slot.{Entry, fits, fits-parts, entryOf, slot, isSlot}
 use Rattle.store.specs.Store.{entryAt, entries, isWanted}
 use Rattle.store.specs.Sound.{Slot, Sound, entries-are}
 use Rattle.compiled.specs.Entries.{entryAt as compiledAt, numbersOf, phonesOf, isSpoken}
@@ -55,10 +55,6 @@ every-append : (f : List ℕ → Bool) (xs ys : List (List ℕ)) → every f xs 
 unfolding every
 every-append f [] ys a b = b
 every-append f (x ∷ xs) ys a b = let h = both-true (f x) (every f xs) a in rw (h .0) (every-append f xs ys (h .1) b)
-
-phone-from : (p : List ℕ) → length p ≤ 15 → ascii p ≡ true → isPhone p ≡ true
-unfolding isPhone
-phone-from p l a = rw (le-leb (length p) 15 l, a)
 
 -- any number's phone in a table, none past its end
 table-phone : (table : List ℕ) (k : ℕ) → isPhoneTable table ≡ true → isPhone (getD (tablePhones table) k []) ≡ true

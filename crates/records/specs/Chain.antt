@@ -1,14 +1,13 @@
 -- 01, Store and sheet: records chained by a next index, where zero ends the chain. `f` gives each record's next.
 -- Assumes nothing.
-use Prim.Native.Nat.{ℕ, zero, suc, _+_, _≤_, _<_}
+use Prim.Native.Nat.{ℕ, zero, suc, _+_, _-_, _≤_, _<_}
 use native.Mathlib.Nat.{not-suc-le-zero, le-of-suc-le-suc}
 use native.Mathlib.Omega.{arith}
 use mathlib.Core.Path.{_≡_, refl, sym, ap, _∙_, subst}
 use mathlib.Core.Logic.{_≢_}
-use mathlib.Core.Bool.{Bool, true, false}
 use mathlib.Core.List.{List, [], _∷_, _++_}
 use lib.Dec.{eqb}
-use lib.ListN.{length, length-append}
+use lib.ListN.{length}
 use borrow.Author.Tests.{eq-eqb, ne-eqb}
 use Rattle.texts.specs.Choice.{if_then_else_}
 
@@ -77,6 +76,22 @@ chain-linked f (suc n) p (x ∷ xs) h l =
 pub chain-more : (f : ℕ → ℕ) (n p : ℕ) → f p ≢ 0 → chain f (suc n) p ≡ f p ∷ chain f n (f p)
 unfolding chain
 chain-more f n p h = rw (ne-eqb (f p) 0 h)
+
+-- the records behind p, told by those behind the next
+module _ (f : ℕ → ℕ) where
+  pub chain-turn : (left p q : ℕ) → 0 < left → q ≡ f p → q ≢ 0 → chain f left p ≡ q ∷ chain f (left - 1) q
+  unfolding chain
+  chain-turn zero p q h e n = absurd (not-suc-le-zero h)
+  chain-turn (suc left) p q h e n = let k : suc left - 1 ≡ left = omega arith in rw (k, ← e, ne-eqb q 0 n)
+
+  pub chain-stop : (left p : ℕ) → f p ≡ 0 → chain f left p ≡ []
+  unfolding chain
+  chain-stop zero p e = refl
+  chain-stop (suc left) p e = rw (eq-eqb (f p) 0 e)
+
+  pub chain-end : (left p : ℕ) → left ≤ 0 → chain f left p ≡ []
+  unfolding chain
+  chain-end left p h = let e : left ≡ 0 = omega arith in rw e
 
 -- so there is only one behind a record, and a chain that ends visits no record twice
 pub only : (f : ℕ → ℕ) (p : ℕ) (xs ys : List ℕ) → Linked f p xs → Linked f p ys → xs ≡ ys

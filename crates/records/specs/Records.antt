@@ -7,8 +7,8 @@ use native.Mathlib.Omega.{arith}
 use native.Mathlib.Decide.{decLe}
 use mathlib.Core.Path.{_≡_, refl, sym, ap, _∙_, subst}
 use mathlib.Core.Logic.{_≢_}
-use mathlib.Core.List.{List, [], _∷_, _++_, append-assoc}
-use lib.ListN.{length, getD, set, take, drop, length-set, length-take, length-drop, length-append, List·getD-append}
+use mathlib.Core.List.{List, [], _∷_, _++_, append-assoc, append-nil}
+use lib.ListN.{length, getD, set, take, drop, length-set, length-take, length-drop, length-append, List·getD-append, drop-of-length-le}
 use lib.Seq.{paste, paste-suc, take-paste, drop-paste, drop-drop, length-take-le, length-paste, length-paste-head, getD-take, getD-drop, getD-append-add, getD-set-other, ext-getD, take-at, drop-at, take-all, take-length, take-set-lt, take-suc-set, drop-set-add}
 use Rattle.records.specs.Fields.{u16At, put16}
 
@@ -89,6 +89,10 @@ take-front d s n l = rw (take-all n s (omega arith)) (take-at s (drop (0 + n) d)
 
 pub paste-front : (d s : List ℕ) → paste d 0 s (length s) ≡ s ++ drop (length s) d
 paste-front d s = rw (take-length s, zero-add)
+
+-- a copy as long as the whole leaves nothing of it
+pub paste-whole : (d s : List ℕ) → length d ≡ length s → paste d 0 s (length s) ≡ s
+paste-whole d s h = let l : length d ≤ length s = omega arith in paste-front d s ∙ rw (drop-of-length-le d l) (append-nil s)
 
 -- one more byte of a paste, as a loop writes it
 pub paste-turn : (d s : List ℕ) (k j v : ℕ) → k + j < length d → j < length s → getD s j 0 ≡ v → set (paste d k s j) (k + j) v ≡ paste d k s (j + 1)

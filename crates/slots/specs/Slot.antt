@@ -11,7 +11,7 @@ use lib.Seq.{take-at, drop-at, getD-at, take-append-le, take-append-seam}
 use borrow.Author.Tests.{eqb-true, eq-eqb, leb-true, leb-false, le-leb, lt-leb}
 use Rattle.texts.specs.Choice.{if_then_else_, both-true, cases}
 use Rattle.texts.specs.Lists.{every, every-same, every-at}
-use Rattle.texts.specs.Text.{folded, low, ascii, isWord, same, same-refl, same-true, word-short}
+use Rattle.texts.specs.Text.{folded, low, ascii, isWord, same, same-refl, same-true, word-short, isPhone}
 use Rattle.records.specs.Fields.{u16At, put16}
 use Rattle.cells.specs.Cells.{phonesOf, cellsOf, asciiPhones, length-phonesOf, phone-fits, length-cellsOf, phones-cells}
 
@@ -27,10 +27,6 @@ isSmall b = eqb (folded b) b
 
 unfoldable pub isFolded : List ℕ → Bool
 isFolded w = every isSmall w
-
--- a phone of a store: at most 15 bytes, each below 128
-unfoldable pub isPhone : List ℕ → Bool
-isPhone p = leb (length p) 15 && ascii p
 
 -- what an entry of a store may be: the word folded, lengths and counts fit, texts and tag below 128
 unfoldable pub fits : Entry → Bool

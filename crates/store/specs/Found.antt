@@ -5,7 +5,7 @@ use native.Mathlib.Omega.{arith}
 use mathlib.Core.Path.{_≡_, refl, ap, _∙_, subst}
 use mathlib.Core.Logic.{_≢_}
 use mathlib.Core.Bool.{Bool, true, false, not}
-use mathlib.Core.List.{List, [], _∷_, _++_, map}
+use mathlib.Core.List.{List, [], _∷_, _++_, map, map-append}
 use lib.Dec.{eqb}
 use borrow.Author.Tests.{eq-eqb, ne-eqb}
 use Rattle.texts.specs.Choice.{if_then_else_}
@@ -18,7 +18,7 @@ use Rattle.store.specs.Adding.{seek}
 use Rattle.store.specs.Sound.{Slot, Sound, entries-are}
 use Rattle.store.specs.Sought.{Sought, none, found, sought}
 use Rattle.store.specs.Keys.{either-false, some-append, some-here}
-use Rattle.store.specs.Result.{map-append, within}
+use Rattle.store.specs.Result.{within}
 
 first-append : (wanted : Entry → Bool) (xs ys : List Entry) (e : Entry) → some wanted xs ≡ false → wanted e ≡ true → first wanted (xs ++ e ∷ ys) ≡ just e
 unfolding first some

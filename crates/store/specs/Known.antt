@@ -4,14 +4,14 @@ use Prim.Native.Nat.{ℕ, _+_, _*_, _≤_, _<_}
 use native.Mathlib.Omega.{arith}
 use mathlib.Core.Path.{_≡_, sym, ap, _∙_, subst}
 use mathlib.Core.Logic.{_≢_}
-use mathlib.Core.Bool.{true, false, not}
-use mathlib.Core.List.{List, [], _∷_, _++_, map}
+use mathlib.Core.Bool.{true, false}
+use mathlib.Core.List.{List, [], _∷_, _++_, map, map-append}
 use lib.ListN.{length, length-append}
 use Rattle.texts.specs.Lists.{some}
 use Rattle.records.specs.Records.{recordAt}
 use Rattle.records.specs.Chain.{All, Distinct, Linked, endOf, all-map, all-append, all-left, all-right, all-end, end-append, distinct}
-use Rattle.slots.specs.Slot.{Entry, Fits, slot}
-use Rattle.store.specs.Store.{next, last, used, slots, entryAt, sameKey, keysDiffer}
+use Rattle.slots.specs.Slot.{Entry, Fits}
+use Rattle.store.specs.Store.{next, last, used, entryAt, sameKey, keysDiffer}
 use Rattle.store.specs.Adding.{without, adding, cutOut, tied}
 use Rattle.store.specs.Sound.{Slot, Sound}
 use Rattle.store.specs.Bytes.{Kept, kept-kept}
@@ -19,7 +19,7 @@ use Rattle.store.specs.Keys.{without-one}
 use Rattle.store.specs.Sought.{none}
 use Rattle.store.specs.Cut.{from, cut-linked, cut-length, cut-last, cut-used, cut-kept, cut-other, cut-zeros, not-last}
 use Rattle.store.specs.Tied.{tied-linked, tied-last, tied-used, tied-length, tied-kept, tied-other, tied-entry, tied-sound, tied-zeros}
-use Rattle.store.specs.Result.{Added, map-kept, map-append, is-added, few, within, last-within}
+use Rattle.store.specs.Result.{Added, map-kept, is-added, few, within, last-within}
 
 -- a known key keeps its slot and moves last
 module _ (b : List ℕ) (e : Entry) (s : Sound b) (f : Fits e) (xs ys : List ℕ) (n : ℕ) (split : s .chained ≡ xs ++ n ∷ ys) (none : some (sameKey e) (map (entryAt b) xs) ≡ false)

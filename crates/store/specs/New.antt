@@ -5,13 +5,13 @@ use native.Mathlib.Omega.{arith}
 use mathlib.Core.Path.{_≡_, sym, _∙_}
 use mathlib.Core.Logic.{_≢_}
 use mathlib.Core.Bool.{false}
-use mathlib.Core.List.{List, [], _∷_, _++_, map}
+use mathlib.Core.List.{List, [], _∷_, _++_, map, map-append}
 use lib.ListN.{length, length-append}
 use Rattle.texts.specs.Lists.{some}
 use Rattle.records.specs.Fields.{put16, length-put16, u16-put-same, u16-put-other}
 use Rattle.records.specs.Records.{recordAt}
 use Rattle.records.specs.Chain.{All, endOf, all-map, all-append, end-append, frame}
-use Rattle.slots.specs.Slot.{Entry, Fits, slot}
+use Rattle.slots.specs.Slot.{Entry, Fits}
 use Rattle.store.specs.Store.{next, last, used, slots, entryAt, sameKey}
 use Rattle.store.specs.Adding.{adding, tied}
 use Rattle.store.specs.Sound.{Slot, Sound}
@@ -19,7 +19,7 @@ use Rattle.store.specs.Bytes.{Kept, kept-same, kept-kept, field-next, fi
 use Rattle.store.specs.Keys.{without-none}
 use Rattle.store.specs.Sought.{none}
 use Rattle.store.specs.Tied.{tied-linked, tied-last, tied-length, tied-kept, tied-other, tied-entry, tied-sound, tied-zeros}
-use Rattle.store.specs.Result.{Added, all-of, map-kept, map-append, is-added, few, within, last-within}
+use Rattle.store.specs.Result.{Added, all-of, map-kept, is-added, few, within, last-within}
 
 -- a new key takes slot used + 1
 module _ (b : List ℕ) (e : Entry) (s : Sound b) (f : Fits e) (none : some (sameKey e) (map (entryAt b) (s .chained)) ≡ false) (room : used b + 1 < slots b) where

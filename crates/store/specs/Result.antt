@@ -4,17 +4,16 @@ use Prim.Native.Nat.{ℕ, _%_, _≤_, _<_}
 use native.Mathlib.Omega.{arith}
 use mathlib.Core.Path.{_≡_, refl, sym, ap, _∙_, subst}
 use mathlib.Core.Bool.{true, _&&_}
-use mathlib.Core.List.{List, [], _∷_, _++_, map}
+use mathlib.Core.List.{List, [], _∷_, map}
 use lib.Dec.{eqb, leb}
 use lib.ListN.{length, drop}
 use borrow.Author.Tests.{leb-true}
 use Rattle.texts.specs.Choice.{both-true}
-use Rattle.texts.specs.Text.{is}
 use Rattle.records.specs.Records.{recordAt}
 use Rattle.records.specs.Chain.{All, Linked, endOf, all-map, all-end, distinct}
 use Rattle.slots.specs.Slot.{Entry}
 use Rattle.store.specs.Store.{next, last, used, slots, entryAt, entries, isStoreLength}
-use Rattle.store.specs.Adding.{adding, added}
+use Rattle.store.specs.Adding.{adding}
 use Rattle.store.specs.Sound.{Slot, Sound, entries-are}
 use Rattle.store.specs.Bytes.{Kept}
 use Rattle.store.specs.Keys.{keys-adding}
@@ -27,10 +26,6 @@ all-of P (x ∷ xs) h = (h x, all-of P xs h)
 pub map-kept : (b c : List ℕ) (xs : List ℕ) → All (λ (n : ℕ). Kept b c n) xs → map (entryAt c) xs ≡ map (entryAt b) xs
 map-kept b c [] k = refl
 map-kept b c (x ∷ xs) k = let ih = map-kept b c xs (k .1) in rw (k .0 .entry, ih)
-
-pub map-append : (f : ℕ → Entry) (xs ys : List ℕ) → map f (xs ++ ys) ≡ map f xs ++ map f ys
-map-append f [] ys = refl
-map-append f (x ∷ xs) ys = ap (λ (l : List Entry). f x ∷ l) (map-append f xs ys)
 
 -- what an added store is: sound, with the adding rule's entries
 pub record Added (b c : List ℕ) (e : Entry) : Type 0 where

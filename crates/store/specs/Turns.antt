@@ -6,7 +6,7 @@ use native.Mathlib.Omega.{arith}
 use mathlib.Core.Path.{_≡_, refl, ap, _∙_}
 use mathlib.Core.Logic.{_≢_}
 use mathlib.Core.Bool.{Bool, true, false}
-use mathlib.Core.List.{List, [], _∷_, _++_, map, append-assoc}
+use mathlib.Core.List.{List, _++_, map, append-assoc}
 use lib.Dec.{eqb}
 use lib.ListN.{length, take, drop, length-drop}
 use lib.Seq.{length-take-le, take-all, drop-drop}
@@ -14,7 +14,7 @@ use borrow.Author.Tests.{eq-eqb, ne-eqb, le-leb, lt-leb}
 use Rattle.texts.specs.Lists.{some}
 use Rattle.records.specs.Fields.{put16}
 use Rattle.records.specs.Records.{recordAt, putRecord}
-use Rattle.records.specs.Chain.{chain, endOf}
+use Rattle.records.specs.Chain.{chain, endOf, chain-turn, chain-stop, chain-end}
 use Rattle.slots.specs.Slot.{Entry, slot, isSlot}
 use Rattle.store.specs.Store.{next, last, entryAt, sameKey, keysDiffer, walks}
 use Rattle.store.specs.Adding.{seek, tied}
@@ -24,34 +24,19 @@ pub length-slotAt : (b : List ℕ) (n : ℕ) → 512 * n + 512 ≤ length b → 
 unfolding recordAt
 length-slotAt b n h = length-take-le 512 (drop (512 * n) b) (rw length-drop (omega arith))
 
--- the chain
+-- the last of a chain
 module _ (f : ℕ → ℕ) where
-  pub chain-turn : (left p q : ℕ) → 0 < left → q ≡ f p → q ≢ 0 → chain f left p ≡ q ∷ chain f (left - 1) q
-  unfolding chain
-  chain-turn zero p q h e n = absurd (not-suc-le-zero h)
-  chain-turn (suc left) p q h e n = let k : suc left - 1 ≡ left = omega arith in rw (k, ← e, ne-eqb q 0 n)
-
-  pub chain-stop : (left p : ℕ) → f p ≡ 0 → chain f left p ≡ []
-  unfolding chain
-  chain-stop zero p e = refl
-  chain-stop (suc left) p e = rw (eq-eqb (f p) 0 e)
-
-  pub chain-end : (left p : ℕ) → left ≤ 0 → chain f left p ≡ []
-  unfolding chain
-  chain-end left p h = let e : left ≡ 0 = omega arith in rw e
-
-  -- its last
   pub end-turn : (left p q : ℕ) → 0 < left → q ≡ f p → q ≢ 0 → endOf p (chain f left p) ≡ endOf q (chain f (left - 1) q)
   unfolding endOf
-  end-turn left p q h e n = ap (endOf p) (chain-turn left p q h e n)
+  end-turn left p q h e n = ap (endOf p) (chain-turn f left p q h e n)
 
   pub end-stop : (left p : ℕ) → f p ≡ 0 → endOf p (chain f left p) ≡ p
   unfolding endOf
-  end-stop left p e = ap (endOf p) (chain-stop left p e)
+  end-stop left p e = ap (endOf p) (chain-stop f left p e)
 
   pub end-end : (left p : ℕ) → left ≤ 0 → endOf p (chain f left p) ≡ p
   unfolding endOf
-  end-end left p h = ap (endOf p) (chain-end left p h)
+  end-end left p h = ap (endOf p) (chain-end f left p h)
 
 -- an entry that passes a test, among those in the chain
 module _ (f : ℕ → ℕ) (g : ℕ → Entry) (test : Entry → Bool) where

@@ -1,18 +1,17 @@
 -- Byte strings. 01, Lookup: case folding; Adding: blanks; What a call gives back: words and tags.
 -- Assumes nothing.
-use Prim.Native.Nat.{ℕ, suc, _+_, _-_, _≤_, _<_}
+use Prim.Native.Nat.{ℕ, _+_, _-_, _≤_, _<_}
 use native.Mathlib.Omega.{arith}
-use Prim.Native.Char.{Char, code}
+use Prim.Native.Char.{code}
 use Prim.Native.String.{String, [] as nil, _∷_ as _c∷_}
-use mathlib.Core.Path.{_≡_, refl, sym, ap, _∙_}
+use mathlib.Core.Path.{_≡_, refl}
 use mathlib.Core.Bool.{Bool, true, false, not, _&&_, _||_}
 use mathlib.Core.List.{List, [], _∷_, _++_}
 use lib.Dec.{eqb, leb, ltb}
 use lib.ListN.{length, getD, take, drop, drop-of-length-le}
 use lib.Seq.{drop-cons, take-append-seam}
 use native.Mathlib.Numerals.{add-one}
-use native.Mathlib.Nat.{not-suc-le-zero}
-use borrow.Author.Tests.{eqb-true, eq-eqb, ne-eqb, ltb-true, ltb-false, leb-true}
+use borrow.Author.Tests.{eqb-true, eq-eqb, ne-eqb, ltb-true, ltb-false, leb-true, le-leb}
 use Rattle.texts.specs.Choice.{if_then_else_, cases, both-true, never, is-false}
 use Rattle.texts.specs.Lists.{every, some}
 
@@ -44,6 +43,10 @@ ascii s = every low s
 -- a word or a tag is at most 47 bytes, each below 128 (refusal 3)
 unfoldable pub isWord : List ℕ → Bool
 isWord s = leb (length s) 47 && ascii s
+
+-- a phone has at most 15 bytes, each below 128
+unfoldable pub isPhone : List ℕ → Bool
+isPhone p = leb (length p) 15 && ascii p
 
 -- one tag is another; or, where "0" is any tag, one of them is "0"
 unfoldable pub agree : Bool → ℕ → ℕ → Bool
@@ -124,3 +127,7 @@ module _ (row x rest : List ℕ) (n : ℕ) (e : row ≡ length x ∷ x ++ rest) 
 pub word-short : (s : List ℕ) → isWord s ≡ true → length s ≤ 47
 unfolding isWord
 word-short s h = leb-true (length s) 47 (both-true (leb (length s) 47) (ascii s) h .0)
+
+pub phone-from : (p : List ℕ) → length p ≤ 15 → ascii p ≡ true → isPhone p ≡ true
+unfolding isPhone
+phone-from p l a = rw (le-leb (length p) 15 l, a)

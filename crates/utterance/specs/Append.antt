@@ -6,7 +6,7 @@ use mathlib.Core.List.{List, [], _∷_, _++_}
 use lib.Dec.{eqb, leb}
 use lib.ListN.{length}
 use Rattle.texts.specs.Lists.{every, from}
-use Rattle.texts.specs.Text.{ascii, isWord}
+use Rattle.texts.specs.Text.{isWord, isPhone}
 use Rattle.records.specs.Fields.{put16}
 use Rattle.records.specs.Records.{putRecord}
 use Rattle.records.specs.Chain.{endOf}
@@ -76,9 +76,6 @@ appended b w =
     tied (putItems b n (wordItems n lp w)) (at b 0 .last) lp n (headOr 0 ps) (endOf lp ps) (used b + size w)
 
 -- a word that a sheet may hold
-unfoldable pub isPhone : List ℕ → Bool
-isPhone p = leb (length p) 15 && ascii p
-
 unfoldable pub isSyllable : Syllable → Bool
 isSyllable y = (eqb (y .stress) 48 || eqb (y .stress) 49) && leb 1 (length (y .phones)) && every isPhone (y .phones)
 

@@ -1,3 +1,4 @@
+-- To believe: Tree says what words, syllables and phones are on a sheet, Sheet when it is sound and what it reads as, Append how a word is put last; Sound says soundness declaratively. The others are laws.
 pub mod Tree
 pub mod Sheet
 pub mod Sound

@@ -3,18 +3,17 @@
 use Prim.Native.Nat.{ℕ, zero, suc, _-_, _*_, _≤_, _<_}
 use native.Mathlib.Nat.{not-suc-le-zero}
 use native.Mathlib.Omega.{arith}
-use mathlib.Core.Path.{_≡_, refl, ap, _∙_}
+use mathlib.Core.Path.{_≡_, refl, sym, ap, _∙_}
 use mathlib.Core.Logic.{_≢_}
 use mathlib.Core.Bool.{Bool, true, false, _&&_}
-use mathlib.Core.List.{List, [], _∷_}
+use mathlib.Core.List.{List, _∷_}
 use lib.Dec.{eqb}
 use lib.ListN.{length, drop, length-drop}
 use lib.Seq.{length-take-le}
-use borrow.Author.Tests.{eq-eqb, ne-eqb}
 use Rattle.texts.specs.Choice.{if_then_else_, cases, never}
 use Rattle.texts.specs.Lists.{every}
 use Rattle.records.specs.Records.{recordAt}
-use Rattle.records.specs.Chain.{chain}
+use Rattle.records.specs.Chain.{chain, chain-turn, chain-stop, chain-end}
 use Rattle.items.specs.Item.{Item}
 use Rattle.utterance.specs.Sheet.{at, items, after, isChained, isPlaced, walks}
 
@@ -23,23 +22,7 @@ pub length-itemAt : (b : List ℕ) (n : ℕ) → n < items b → length (recordA
 unfolding recordAt
 length-itemAt b n h = length-take-le 64 (drop (64 * n) b) (rw length-drop (omega arith))
 
--- the chain
-module _ (f : ℕ → ℕ) where
-  pub chain-turn : (left p q : ℕ) → 0 < left → q ≡ f p → q ≢ 0 → chain f left p ≡ q ∷ chain f (left - 1) q
-  unfolding chain
-  chain-turn zero p q h e n = absurd (not-suc-le-zero h)
-  chain-turn (suc left) p q h e n = let k : suc left - 1 ≡ left = omega arith in rw (k, ← e, ne-eqb q 0 n)
-
-  pub chain-stop : (left p q : ℕ) → q ≡ f p → q ≡ 0 → chain f left p ≡ []
-  unfolding chain
-  chain-stop zero p q e z = refl
-  chain-stop (suc left) p q e z = rw (← e, eq-eqb q 0 z)
-
-  pub chain-end : (left p : ℕ) → left ≤ 0 → chain f left p ≡ []
-  unfolding chain
-  chain-end left p h = let e : left ≡ 0 = omega arith in rw e
-
--- a test that each of its items passes
+-- a test that each item of a chain passes
 module _ (f : ℕ → ℕ) (test : ℕ → Bool) where
   pub each-turn : (left p q : ℕ) → 0 < left → q ≡ f p → q ≢ 0 → test q ≡ true → every test (chain f left p) ≡ every test (chain f (left - 1) q)
   unfolding every
@@ -51,7 +34,7 @@ module _ (f : ℕ → ℕ) (test : ℕ → Bool) where
 
   pub each-stop : (left p q : ℕ) → q ≡ f p → q ≡ 0 → every test (chain f left p) ≡ true
   unfolding every
-  each-stop left p q e z = ap (every test) (chain-stop f left p q e z)
+  each-stop left p q e z = ap (every test) (chain-stop f left p (sym e ∙ z))
 
   pub each-end : (left p : ℕ) → left ≤ 0 → every test (chain f left p) ≡ true
   unfolding every
@@ -90,7 +73,7 @@ module _ (S : ℕ → Item) where
 
   pub chained-stop : (f : ℕ → ℕ) (left p q x : ℕ) → x ≡ f p → x ≡ 0 → isChained S q (chain f left p) ≡ isLast q
   unfolding isChained isLast
-  chained-stop f left p q x e z = ap (isChained S q) (chain-stop f left p x e z)
+  chained-stop f left p q x e z = ap (isChained S q) (chain-stop f left p (sym e ∙ z))
 
   pub chained-end : (f : ℕ → ℕ) (left p q : ℕ) → left ≤ 0 → isChained S q (chain f left p) ≡ isLast q
   unfolding isChained isLast

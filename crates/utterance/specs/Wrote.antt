@@ -11,14 +11,14 @@ use lib.ListN.{length}
 use borrow.Author.Tests.{leb-true}
 use Rattle.texts.specs.Choice.{both-true}
 use Rattle.texts.specs.Lists.{every, from}
-use Rattle.texts.specs.Text.{ascii, isWord, word-short}
+use Rattle.texts.specs.Text.{ascii, isWord, word-short, isPhone}
 use Rattle.records.specs.Records.{recordAt, putRecord, length-putRecord, putRecord-same, putRecord-other}
 use Rattle.records.specs.Chain.{All, endOf}
 use Rattle.items.specs.Item.{Item, item, itemOf, isWordItem, isSyllableItem, isPhoneItem, fits, isItem}
 use Rattle.items.specs.Written.{length-item, item-back, item-clean}
 use Rattle.utterance.specs.Tree.{Syllable, Word, SyllableAt, phonesIn}
 use Rattle.utterance.specs.Sheet.{at}
-use Rattle.utterance.specs.Append.{headOr, numbered, phoneItems, syllableItems, wordItems, putItems, isPhone, isSyllable, isSaid}
+use Rattle.utterance.specs.Append.{headOr, numbered, phoneItems, syllableItems, wordItems, putItems, isSyllable, isSaid}
 use Rattle.utterance.specs.Places.{Filled}
 use Rattle.utterance.specs.Said.{Are}
 

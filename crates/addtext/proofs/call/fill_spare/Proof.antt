@@ -7,7 +7,7 @@ use mathlib.Core.List.{List}
 use Rattle.store.specs.Store.{isSound}
 use Rattle.lines.specs.Lines.{lines}
 use Rattle.addtext.specs.Call.{filled}
-use Rattle.addtext.specs.Turns.{paste-whole}
+use Rattle.records.specs.Records.{paste-whole}
 use Rattle.addtext.proofs.call.fill_spare.Tie as tie
 
 copied : (c : tie.After-copy-in) → c .copy-in .last .0 ≡ c .before .before .before .before .before .before .args .store .now

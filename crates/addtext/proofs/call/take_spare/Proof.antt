@@ -2,7 +2,7 @@
 use Rattle.addtext.proofs.call.take_spare.Statement.{statement}
 use native.Mathlib.Omega.{arith}
 use mathlib.Core.Path.{_∙_}
-use Rattle.addtext.specs.Turns.{paste-whole}
+use Rattle.records.specs.Records.{paste-whole}
 use Rattle.addtext.proofs.call.take_spare.Tie as tie
 
 copy-in-requires : tie.Need-copy-in-requires

@@ -13,7 +13,7 @@ use Rattle.pipeline.specs.Pronounced.{pronounced, phones}
 use Rattle.pipeline.specs.Sources.{entries-fit}
 use Rattle.pipeline.specs.Fits.{pronounced-fits}
 use Rattle.pipeline.specs.Outcome.{pronounced-real, said-refused, said-phones, phones-few}
-use Rattle.slots.specs.Slot.{isPhone}
+use Rattle.texts.specs.Text.{isPhone}
 use Rattle.texts.specs.Lists.{every}
 use mathlib.Core.Bool.{true}
 use Rattle.pipeline.specs.Cutting.{toldSpoken}
