@@ -2,7 +2,7 @@
 -- Assumes nothing.
 use Prim.Native.Nat.{ℕ, _-_}
 use native.Mathlib.Omega.{arith}
-use mathlib.Core.Path.{_≡_, refl, subst}
+use mathlib.Core.Path.{_≡_, refl, sym, subst}
 use mathlib.Core.Bool.{Bool, true, false, _&&_, _||_}
 use mathlib.Core.List.{List, [], _∷_, map}
 use mathlib.Core.Option.{Option, none, some}
@@ -105,9 +105,13 @@ letters-spoken : (o : Option (List (List ℕ))) → AreFit o → Fits (onFinding
 letters-spoken none h = tt
 letters-spoken (some ps) h = h
 
+-- a refused lookup is never sent to the letter trees
+refused-lookup : (o : Option (List (List ℕ))) → onFinding damaged o ≡ barred 6
+refused-lookup o = refl
+
 finding-spoken : (f : Finding) (o : Option (List (List ℕ))) → Fit f → AreFit o → Fits (onFinding f o)
 finding-spoken nothing o h k = letters-spoken o k
-finding-spoken damaged o h k = tt
+finding-spoken damaged o h k = subst Fits (sym (refused-lookup o)) tt
 finding-spoken (found s ps) o h k = cases (ltb 96 (length ps)) (λ e. rw e tt) (λ e. rw e h)
 
 module _ (c : Sections) (es : List Entry) (word tag : List ℕ) (h : every fits es ≡ true) (lexicon : isLexicon (c .lexPhones) (c .lexIndex) ≡ true) (trees : isTrees (c .ltsPhones) (c .ltsIndex) (c .ltsModel) ≡ true) where

@@ -20,6 +20,7 @@ use Rattle.pipeline.specs.Pronounced.{Sections, Spoken, barred, phones, 
 abbrev pub isCrowded : List ℕ → Word → Bool
 isCrowded sheet w = leb (items sheet) (used sheet + size w)
 
+-- the answer to a word that was pronounced
 abbrev pub placed : List ℕ → Word → Answer
 placed sheet w = if isCrowded sheet w then refused 9 0 else accepted 0 0
 

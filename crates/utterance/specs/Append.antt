@@ -62,10 +62,14 @@ unfoldable pub putItems : List ℕ → ℕ → List Item → List ℕ
 putItems b k [] = b
 putItems b k (i ∷ is) = putItems (putRecord 64 b k (item i)) (k + 1) is
 
+-- where an item names the word behind it: its next sibling; item 0, its first child
+abbrev pub wordLink : ℕ → ℕ
+wordLink lw = cond (eqb lw 0) 4 2
+
 -- the ties: word n behind the last word lw, or the first word; phone a behind the last phone lp, or the first phone; then item 0's last word, last phone l, and u items used
 unfoldable pub tied : List ℕ → ℕ → ℕ → ℕ → ℕ → ℕ → ℕ → List ℕ
 tied b lw lp n a l u =
-    put16 (put16 (put16 (put16 (put16 b (64 * lw + cond (eqb lw 0) 4 2) n) (64 * lp + 12) a) 6 n) 10 l) 8 u
+    put16 (put16 (put16 (put16 (put16 b (64 * lw + wordLink lw) n) (64 * lp + 12) a) 6 n) 10 l) 8 u
 
 -- the sheet with a word put last
 unfoldable pub appended : List ℕ → Word → List ℕ
@@ -75,7 +79,7 @@ appended b w =
     let ps = phonesIn (numbered (n + 1) (w .syllables)) in
     tied (putItems b n (wordItems n lp w)) (at b 0 .last) lp n (headOr 0 ps) (endOf lp ps) (used b + size w)
 
--- a word that a sheet may hold
+-- a syllable, and a word, that a sheet may hold
 unfoldable pub isSyllable : Syllable → Bool
 isSyllable y = (eqb (y .stress) 48 || eqb (y .stress) 49) && leb 1 (length (y .phones)) && every isPhone (y .phones)
 

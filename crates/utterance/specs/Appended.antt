@@ -1,4 +1,4 @@
--- A word put last on a sound sheet with room for it: the sheet is sound, reads as before and then that word, and items that are not involved keep their bytes.
+-- A word put last on a sound sheet with room for it: the sheet is sound, reads as before and then that word, the last word and the last phone are tied to it, and all other items keep their bytes.
 -- Assumes nothing.
 use Prim.Native.Nat.{ℕ, _+_, _≤_, _<_}
 use native.Mathlib.Omega.{arith}
@@ -11,20 +11,21 @@ use lib.ListN.{length, length-append}
 use borrow.Author.Tests.{leb-true}
 use Rattle.texts.specs.Choice.{both-true}
 use Rattle.texts.specs.Lists.{from, length-from}
+use Rattle.records.specs.Fields.{put16}
 use Rattle.records.specs.Records.{recordAt}
 use Rattle.records.specs.Chain.{All, endOf, all-map, all-append, all-end}
 use Rattle.items.specs.Item.{Item, isItem}
-use Rattle.utterance.specs.Tree.{Word, WordAt, wordsAt, phonesAt, itemsAt, wordAt}
+use Rattle.utterance.specs.Tree.{Word, WordAt, wordsAt, phonesIn, phonesAt, itemsAt, wordAt}
 use Rattle.utterance.specs.Sheet.{at, used, items, isSheetLength, reading}
 use Rattle.utterance.specs.Sound.{Placed, Sound}
-use Rattle.utterance.specs.Append.{size, placeOf, appended, isSaid}
+use Rattle.utterance.specs.Append.{headOr, size, numbered, placeOf, appended, isSaid}
 use Rattle.utterance.specs.Read.{reading-is}
 use Rattle.utterance.specs.Behind.{all-both, all-from}
 use Rattle.utterance.specs.Walked.{word-kinds}
 use Rattle.utterance.specs.Places.{all-phones, all-words, phone-kinds}
 use Rattle.utterance.specs.Grown.{Grown, back-end, grown-items, grown-once, grown-full, grown-tree, grown-reads, grown-onwards, grown-backwards}
 use Rattle.utterance.specs.Wrote.{said-parts, said-filled}
-use Rattle.utterance.specs.Bytes.{length-appended, appended-kept, appended-grown, appended-head, appended-old, appended-new}
+use Rattle.utterance.specs.Bytes.{length-appended, appended-kept, word-record, phone-record, appended-grown, appended-head, appended-old, appended-new}
 
 -- what putting a word last on a sound sheet leaves
 pub record Appended (b c : List ℕ) (w : Word) (s : Sound b) : Type 0 where
@@ -34,6 +35,8 @@ pub record Appended (b c : List ℕ) (w : Word) (s : Sound b) : Type 0 where
   pub grown : used c ≡ used b + size w
   pub long : length c ≡ length b
   pub kept : (j : ℕ) → 1 ≤ j → j ≤ used b → j ≢ at b 0 .last → j ≢ at b 0 .prev → recordAt 64 c j ≡ recordAt 64 b j
+  pub word : at b 0 .last ≢ 0 → recordAt 64 c (at b 0 .last) ≡ put16 (recordAt 64 b (at b 0 .last)) 2 (used b + 1)
+  pub phone : at b 0 .prev ≢ 0 → recordAt 64 c (at b 0 .prev) ≡ put16 (recordAt 64 b (at b 0 .prev)) 12 (headOr 0 (phonesIn (numbered (used b + 1 + 1) (w .syllables))))
   pub beyond : (j : ℕ) → used b + size w < j → recordAt 64 c j ≡ recordAt 64 b j
 
 -- a sheet has at most 65536 bytes
@@ -159,6 +162,8 @@ module _ (b : List ℕ) (w : Word) (s : Sound b) (may : isSaid w ≡ true) (room
         grown = used-c;
         long = long;
         kept = λ j p i nw np. appended-kept b w short room may iw ip (last-apart b s) j (omega arith) nw np (λ h. absurd (omega arith));
+        word = word-record b w short room may iw ip (last-apart b s);
+        phone = phone-record b w short room may iw ip (last-apart b s);
         beyond = λ j h. appended-kept b w short room may iw ip (last-apart b s) j (omega arith) (omega arith) (omega arith) (λ k. h);
       }
 

@@ -110,11 +110,11 @@ module _ (b : List ℕ) (w : Word) (short : length b ≤ 65536) (room : used b +
   pub appended-kept : (j : ℕ) → j ≢ 0 → j ≢ lw → j ≢ lp → (used b < j → used b + size w < j) → recordAt 64 (appended b w) j ≡ recordAt 64 b j
   appended-kept j r nw np out = rw is-c (tied-other c₀ lw lp n a l (used b + size w) j r nw np ∙ before j out)
 
-  word-record : lw ≢ 0 → recordAt 64 (appended b w) lw ≡ put16 (recordAt 64 b lw) 2 n
+  pub word-record : lw ≢ 0 → recordAt 64 (appended b w) lw ≡ put16 (recordAt 64 b lw) 2 n
   word-record r =
       rw is-c (tied-word c₀ lw lp n a l (used b + size w) r (apart r) ∙ ap (λ (s : List ℕ). put16 s 2 n) (before lw (λ h. absurd (omega arith))))
 
-  phone-record : lp ≢ 0 → recordAt 64 (appended b w) lp ≡ put16 (recordAt 64 b lp) 12 a
+  pub phone-record : lp ≢ 0 → recordAt 64 (appended b w) lp ≡ put16 (recordAt 64 b lp) 12 a
   phone-record r =
       rw is-c (tied-phone c₀ lw lp n a l (used b + size w) r (λ e. apart (λ z. r (e ∙ z)) (sym e)) ∙ ap (λ (s : List ℕ). put16 s 12 a) (before lp (λ h. absurd (omega arith))))
 

@@ -5,23 +5,23 @@ use native.Mathlib.Omega.{arith}
 use native.Mathlib.Decide.{ℕ-discrete}
 use mathlib.Core.Path.{_≡_, refl, sym, ap, _∙_}
 use mathlib.Core.Logic.{_≢_}
-use mathlib.Core.Bool.{Bool, true, false, cond}
+use mathlib.Core.Bool.{Bool, true, false}
 use mathlib.Core.List.{List}
 use lib.Dec.{eqb}
 use lib.ListN.{length}
 use borrow.Author.Tests.{eq-eqb, ne-eqb}
-use Rattle.texts.specs.Choice.{if_then_else_}
+use Rattle.texts.specs.Choice.{if_then_else_, cases}
 use Rattle.records.specs.Fields.{put16, length-put16}
 use Rattle.records.specs.Records.{recordAt, put16-same, put16-other}
 use Rattle.items.specs.Item.{Item, itemOf, isClean}
 use Rattle.items.specs.Patched.{patch-clean, patch-first, patch-last, patch-parent, patch-prev, patch-follow}
-use Rattle.utterance.specs.Append.{tied}
+use Rattle.utterance.specs.Append.{wordLink, tied}
 use Rattle.utterance.specs.Grown.{withWord}
 
 -- which records the ties change
 module _ (b : List ℕ) (lw lp n a l u : ℕ) where
   abbrev one : List ℕ
-  one = put16 b (64 * lw + cond (eqb lw 0) 4 2) n
+  one = put16 b (64 * lw + wordLink lw) n
 
   abbrev two : List ℕ
   two = put16 one (64 * lp + 12) a
@@ -36,14 +36,10 @@ module _ (b : List ℕ) (lw lp n a l u : ℕ) where
   unfolding tied
   length-tied =
       length-put16 four 8 u ∙ length-put16 three 10 l ∙ length-put16 two 6 n ∙ length-put16 one (64 * lp + 12) a
-      ∙ length-put16 b (64 * lw + cond (eqb lw 0) 4 2) n
+      ∙ length-put16 b (64 * lw + wordLink lw) n
 
-  inside : cond (eqb lw 0) 4 2 + 1 < 64
-  inside = go (eqb lw 0)
-    where
-      go : (t : Bool) → cond t 4 2 + 1 < 64
-      go true = omega arith
-      go false = omega arith
+  inside : wordLink lw + 1 < 64
+  inside = cases (eqb lw 0) (λ e. rw e (omega arith)) (λ e. rw e (omega arith))
 
   -- past item 0 only the first two ties count
   behind : (j : ℕ) → j ≢ 0 → recordAt 64 (tied b lw lp n a l u) j ≡ recordAt 64 two j
@@ -52,17 +48,17 @@ module _ (b : List ℕ) (lw lp n a l u : ℕ) where
       put16-other 64 four 0 8 u (omega arith) j ne ∙ put16-other 64 three 0 10 l (omega arith) j ne ∙ put16-other 64 two 0 6 n (omega arith) j ne
 
   pub tied-other : (j : ℕ) → j ≢ 0 → j ≢ lw → j ≢ lp → recordAt 64 (tied b lw lp n a l u) j ≡ recordAt 64 b j
-  tied-other j ne nw np = behind j ne ∙ put16-other 64 one lp 12 a (omega arith) j np ∙ put16-other 64 b lw (cond (eqb lw 0) 4 2) n inside j nw
+  tied-other j ne nw np = behind j ne ∙ put16-other 64 one lp 12 a (omega arith) j np ∙ put16-other 64 b lw (wordLink lw) n inside j nw
 
   pub tied-word : lw ≢ 0 → lw ≢ lp → recordAt 64 (tied b lw lp n a l u) lw ≡ put16 (recordAt 64 b lw) 2 n
   tied-word ne np =
       behind lw ne ∙ put16-other 64 one lp 12 a (omega arith) lw np
-      ∙ put16-same 64 b lw (cond (eqb lw 0) 4 2) n inside ∙ rw (ne-eqb lw 0 ne)
+      ∙ put16-same 64 b lw (wordLink lw) n inside ∙ rw (ne-eqb lw 0 ne)
 
   pub tied-phone : lp ≢ 0 → lp ≢ lw → recordAt 64 (tied b lw lp n a l u) lp ≡ put16 (recordAt 64 b lp) 12 a
   tied-phone ne nw =
       behind lp ne ∙ put16-same 64 one lp 12 a (omega arith)
-      ∙ ap (λ (r : List ℕ). put16 r 12 a) (put16-other 64 b lw (cond (eqb lw 0) 4 2) n inside lp nw)
+      ∙ ap (λ (r : List ℕ). put16 r 12 a) (put16-other 64 b lw (wordLink lw) n inside lp nw)
 
   -- item 0 has its first word if there was none, its first phone if there was none, and then the rest
   head-word : recordAt 64 one 0 ≡ (if eqb lw 0 then put16 (recordAt 64 b 0) 4 n else recordAt 64 b 0)
@@ -70,9 +66,9 @@ module _ (b : List ℕ) (lw lp n a l u : ℕ) where
     where
       go : Dec (lw ≡ 0) → recordAt 64 one 0 ≡ (if eqb lw 0 then put16 (recordAt 64 b 0) 4 n else recordAt 64 b 0)
       go (yes z) =
-          ap (λ (j : ℕ). recordAt 64 one j) (sym z) ∙ put16-same 64 b lw (cond (eqb lw 0) 4 2) n inside
-          ∙ ap (λ (j : ℕ). put16 (recordAt 64 b j) (cond (eqb lw 0) 4 2) n) z ∙ rw (eq-eqb lw 0 z)
-      go (no z) = put16-other 64 b lw (cond (eqb lw 0) 4 2) n inside 0 (λ e. z (sym e)) ∙ rw (ne-eqb lw 0 z)
+          ap (λ (j : ℕ). recordAt 64 one j) (sym z) ∙ put16-same 64 b lw (wordLink lw) n inside
+          ∙ ap (λ (j : ℕ). put16 (recordAt 64 b j) (wordLink lw) n) z ∙ rw (eq-eqb lw 0 z)
+      go (no z) = put16-other 64 b lw (wordLink lw) n inside 0 (λ e. z (sym e)) ∙ rw (ne-eqb lw 0 z)
 
   head-phone : recordAt 64 two 0 ≡ (if eqb lp 0 then put16 (recordAt 64 one 0) 12 a else recordAt 64 one 0)
   head-phone = go (ℕ-discrete lp 0)
