@@ -1,7 +1,9 @@
 // check lexicon (01, Lookup)
 ghost use mathlib.Core.Path.{_≡_};
+ghost use mathlib.Core.Bool.{true};
 ghost use Prim.Native.Nat.{_+_, _-_, _<_, _^_};
 ghost use Rattle.texts.specs.Lists.{every, upTo};
+ghost use Rattle.data.specs.Sections.{isPhoneTable};
 ghost use Rattle.answers.specs.Told.{toldVerdict};
 ghost use Rattle.compiled.specs.Entries.{count};
 ghost use Rattle.compiled.specs.Call.{isLexicon, isGood, rises as risesAt, isChecked, checkLexicon};
@@ -21,7 +23,7 @@ pub fn is_lexicon(phones: &[u8], index: &[u8]) -> bool
 
 // Whether entry i is whole and every number of it has a phone.
 fn is_good(phones: &[u8], index: &[u8], lex_data: &[u8], i: usize) -> bool
-    requires { ⌜ i < 2 ^ 32 ⌝ }
+    requires { ⌜ (isPhoneTable (now phones) ≡ true) × (i < 2 ^ 32) ⌝ }
     ensures { λ r. ⌜ r ≡ isGood (now (phones .entry)) (now (index .entry)) (now (lex_data .entry)) i ⌝ }
 {
     let s = entries::entry(index, lex_data, i);
@@ -32,6 +34,7 @@ fn is_good(phones: &[u8], index: &[u8], lex_data: &[u8], i: usize) -> bool
 }
 
 fn are_good(phones: &[u8], index: &[u8], lex_data: &[u8]) -> bool
+    requires { ⌜ isPhoneTable (now phones) ≡ true ⌝ }
     ensures { λ r. ⌜ r ≡ every (isGood (now (phones .entry)) (now (index .entry)) (now (lex_data .entry))) (upTo (count (now (index .entry)))) ⌝ }
 {
     let n = data::count(index);

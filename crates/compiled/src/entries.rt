@@ -1,7 +1,9 @@
 // One compiled entry: tag, word length, word, phone count, phone numbers. Parts past the end of the
 // bytes are cut short, and `is_whole` tells.
 ghost use mathlib.Core.Path.{_≡_};
+ghost use mathlib.Core.Bool.{true};
 ghost use Prim.Native.Nat.{_<_, _^_};
+ghost use Rattle.data.specs.Sections.{isPhoneTable};
 ghost use Rattle.compiled.specs.Entries.{tagOf, wordOf, numbersOf, isWhole, isSpoken, entryAt};
 
 // Entry i: the bytes from its offset on.
@@ -47,10 +49,11 @@ pub fn is_whole(s: &[u8]) -> bool
 
 // Whether every number has a phone.
 pub fn is_spoken(phones: &[u8], s: &[u8]) -> bool
+    requires { ⌜ isPhoneTable (now phones) ≡ true ⌝ }
     ensures { λ r. ⌜ r ≡ isSpoken (now (phones .entry)) (now (s .entry)) ⌝ }
 {
     let numbers = numbers(s);
-    let count = data::count(phones);
+    let count = data::table_count(phones);
     let mut i = 0;
     while i < numbers.len() {
         if count <= texts::wide(numbers[i]) {

@@ -173,6 +173,13 @@ pub table-strings : (s : List ℕ) → isPhoneTable s ≡ true → goodStrings (
 unfolding isPhoneTable
 table-strings s h = both-true (leb 4 (length s) && leb (u32At s 0) 256) (goodStrings (u32At s 0) (drop 4 s)) h .1
 
+pub table-count : (s : List ℕ) → isPhoneTable s ≡ true → (4 ≤ length s) × (u32At s 0 ≤ 256)
+unfolding isPhoneTable
+table-count s h =
+    let a = both-true (leb 4 (length s) && leb (u32At s 0) 256) (goodStrings (u32At s 0) (drop 4 s)) h .0 in
+    let b = both-true (leb 4 (length s)) (leb (u32At s 0) 256) a in
+    (leb-true 4 (length s) (b .0), leb-true (u32At s 0) 256 (b .1))
+
 pub table-fits : (s : List ℕ) (k : ℕ) → isPhoneTable s ≡ true → k < u32At s 0 → Phone (getD (tablePhones s) k [])
 unfolding tablePhones
 table-fits s k h lt = string-fits (u32At s 0) k (drop 4 s) (table-strings s h) lt

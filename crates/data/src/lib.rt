@@ -2,67 +2,66 @@
 ghost use mathlib.Core.Path.{_≡_};
 ghost use mathlib.Core.Bool.{true};
 ghost use mathlib.Core.List.{[]};
-ghost use Prim.Native.Nat.{_<_, _^_};
+ghost use Prim.Native.Nat.{_≤_, _<_, _^_};
 ghost use lib.ListN.{getD};
 ghost use Rattle.records.specs.Fields.{u32At};
-ghost use Rattle.data.specs.Sections.{goodString, goodStrings, isPhoneTable, tablePhones, isListed, isLexIndex, isLtsIndex, isLtsModel, isAswd};
+ghost use Rattle.data.specs.Sections.{isPhoneTable, tablePhones, isListed, isLexIndex, isLtsIndex, isLtsModel, isAswd};
 
-// The count at the front of a section.
+mod reader;
+
+// A number that a reader took, and where it then stands.
+pub enum Number {
+    Is(usize, usize),
+    Broken,
+}
+
+// Where the text of a string that a reader took starts, and where it ends: the reader then stands there.
+pub enum Text {
+    At(usize, usize),
+    Broken,
+}
+
+// The count at the front of lex.index.
 pub fn count(s: &[u8]) -> usize
     ensures { λ r. ⌜ (r ≡ u32At (now (s .entry)) 0) × (r < 2 ^ 32) ⌝ }
 {
     records::u32_at(s, 0) as usize
 }
 
-// Whether a string stands at the front of s.
-fn is_string(s: &[u8]) -> bool
-    ensures { λ r. ⌜ r ≡ goodString (now (s .entry)) ⌝ }
+// lex.phones and lts.phones
+pub fn is_phone_table(s: &[u8]) -> bool
+    ensures { λ r. ⌜ r ≡ isPhoneTable (now (s .entry)) ⌝ }
 {
-    if s.len() == 0 {
+    let Number::Is(n, start) = reader::number_from(s, 0) else {
+        return false;
+    };
+    if 256 < n {
         return false;
     }
-    let n = texts::wide(s[0]);
-    if s.len() <= n {
-        return false;
-    }
-    if 15 < n {
-        return false;
-    }
-    let end = n + 1;
-    texts::is_ascii(&s[1..end])
-}
-
-// Whether n strings stand at the front of s.
-fn are_strings(s: &[u8], n: usize) -> bool
-    ensures { λ r. ⌜ r ≡ goodStrings n (now (s .entry)) ⌝ }
-{
     let mut left = n;
-    let mut at = 0;
+    let mut at = start;
     while 0 < left {
-        if !is_string(&s[at..]) {
+        let Text::At(_, to) = reader::string_from(s, at) else {
             return false;
-        }
-        at += 1 + texts::wide(s[at]);
+        };
+        at = to;
         left -= 1;
     }
     true
 }
 
-// lex.phones and lts.phones
-pub fn is_phone_table(s: &[u8]) -> bool
-    ensures { λ r. ⌜ r ≡ isPhoneTable (now (s .entry)) ⌝ }
+// How many phones a table has.
+pub fn table_count(s: &[u8]) -> usize
+    requires { ⌜ isPhoneTable (now s) ≡ true ⌝ }
+    ensures { λ r. ⌜ (r ≡ u32At (now (s .entry)) 0) × (r ≤ 256) ⌝ }
 {
-    if s.len() < 4 {
-        return false;
-    }
-    let n = count(s);
-    if 256 < n {
-        return false;
-    }
-    are_strings(&s[4..], n)
+    let Number::Is(n, _) = reader::number_from(s, 0) else {
+        return 0;
+    };
+    n
 }
 
-// Phone n of a table.
+// Phone n of a table. No string of a table is broken, so neither `else` is ever entered.
 pub fn table_phone(s: &[u8], n: usize) -> &[u8]
     requires { ⌜ (isPhoneTable (now s) ≡ true) × (n < u32At (now s) 0) ⌝ }
     ensures { λ r. ⌜ now r ≡ getD (tablePhones (now (s .entry))) n [] ⌝ }
@@ -70,11 +69,15 @@ pub fn table_phone(s: &[u8], n: usize) -> &[u8]
     let mut left = n;
     let mut at = 4;
     while 0 < left {
-        at += 1 + texts::wide(s[at]);
+        let Text::At(_, to) = reader::string_from(s, at) else {
+            return s;
+        };
+        at = to;
         left -= 1;
     }
-    let from = at + 1;
-    let to = from + texts::wide(s[at]);
+    let Text::At(from, to) = reader::string_from(s, at) else {
+        return s;
+    };
     &s[from..to]
 }
 
@@ -83,11 +86,12 @@ pub fn is_listed(s: &[u8], phone: &[u8]) -> bool
     requires { ⌜ isPhoneTable (now s) ≡ true ⌝ }
     ensures { λ r. ⌜ r ≡ isListed (now (s .entry)) (now (phone .entry)) ⌝ }
 {
-    let mut left = count(s);
+    let mut left = table_count(s);
     let mut at = 4;
     while 0 < left {
-        let from = at + 1;
-        let to = from + texts::wide(s[at]);
+        let Text::At(from, to) = reader::string_from(s, at) else {
+            return false;
+        };
         if texts::same(phone, &s[from..to]) {
             return true;
         }

@@ -100,7 +100,8 @@ fn put_letter(
         97..=122 => {
             let start = records::u16_at(index, 2 * texts::wide(b - 97));
             let features = window(text, k);
-            let Walked::Phone(p) = trees::walk(model, &features, start, data::count(phones)) else {
+            let Walked::Phone(p) = trees::walk(model, &features, start, data::table_count(phones))
+            else {
                 return Letters::Damaged;
             };
             put_leaf(data::table_phone(phones, texts::wide(p)), list, at)

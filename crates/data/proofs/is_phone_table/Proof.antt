@@ -1,57 +1,100 @@
--- `data::is_phone_table` meets its contract: each return is decided by the first test of the definition that fails. Assumes nothing.
+-- `data::is_phone_table` meets its contract: the strings passed are good, so those left decide. Assumes nothing.
 use native.Mathlib.Omega.{arith}
-use mathlib.Core.Path.{_∙_, sym, ap}
-use mathlib.Core.List.{List}
-use Prim.Native.Nat.{ℕ}
-use lib.ListN.{length}
+use mathlib.Core.Path.{_≡_, sym, _∙_}
+use lib.ListN.{length, drop}
 use borrow.Author.Tests.{le-leb, lt-leb}
 use Rattle.records.specs.Fields.{u32At}
-use Rattle.records.specs.Records.{part-from}
-use Rattle.data.specs.Sections.{isPhoneTable, goodStrings}
+use Rattle.data.specs.Sections.{isPhoneTable, goodStrings, strings-stop, strings-turn, strings-end}
+use Rattle.data.specs.Reader.{number-taken, number-broken, string-taken, string-broken}
 use borrow.Author.Needs.{needs}
 use Rattle.data.proofs.is_phone_table.Statement.{statement}
 use Rattle.data.proofs.is_phone_table.Tie as tie
 
-returns : tie.Need-returns
+abbrev Inv-loop : tie.InvT-loop
+Inv-loop s n start left₀ at₀ left at = isPhoneTable s ≡ goodStrings left (drop at s)
+
+abbrev μ-loop : tie.MeasureT-loop
+μ-loop s n start left₀ at₀ left at = left
+
+number-from-requires : tie.Need-number-from-requires Inv-loop μ-loop
+number-from-requires c κs = search needs
+
+enum-known-n : tie.Need-enum-known-n Inv-loop μ-loop
+enum-known-n c = search needs
+
+enum-told : tie.Need-enum-told Inv-loop μ-loop
+enum-told c = search needs
+
+returns : tie.Need-returns Inv-loop μ-loop
 unfolding isPhoneTable
-returns c = rw (lt-leb 4 (length (c .before .before .args .s .now)) (omega arith))
+returns c =
+    let s = c .before .before .before .before .args .s .now in
+    rw (lt-leb 4 (length s) (number-broken s 0 (c .before .before .number-from .ensures) (c .enum-told .given .1)))
 
-count-requires : tie.Need-count-requires
-count-requires c κs = search needs
-
-returns-2 : tie.Need-returns-2
+returns-2 : tie.Need-returns-2 Inv-loop μ-loop
 unfolding isPhoneTable
 returns-2 c =
-    let s = c .before .before .before .before .args .s .now in
-    rw (le-leb 4 (length s) (omega arith), lt-leb (u32At s 0) 256 (omega arith))
-
-sub-are-strings : tie.Need-sub-are-strings
-sub-are-strings c = search needs
-
-part-are-strings-start : tie.Need-part-are-strings-start
-part-are-strings-start c = search needs
-
-part-are-strings-end : tie.Need-part-are-strings-end
-part-are-strings-end c = search needs
-
-are-strings-requires : tie.Need-are-strings-requires
-are-strings-requires c κs = search needs
-
-returns-3 : tie.Need-returns-3
-unfolding isPhoneTable
-returns-3 c =
     let s = c .before .before .before .before .before .before .args .s .now in
-    rw (le-leb 4 (length s) (omega arith), le-leb (u32At s 0) 256 (omega arith)) (cc (part-from 4 s))
+    let r = number-taken s 0 (c .before .before .before .before .number-from .ensures) (c .before .before .n .given .1) in
+    rw (le-leb 4 (length s) (r .inside), lt-leb (u32At s 0) 256 (omega arith))
+
+loop-holds : tie.Need-loop-holds Inv-loop μ-loop
+unfolding isPhoneTable
+loop-holds c =
+    let s = c .before .before .before .before .before .before .args .s .now in
+    let r = number-taken s 0 (c .before .before .before .before .number-from .ensures) (c .before .before .n .given .1) in
+    rw (le-leb 4 (length s) (r .inside), le-leb (u32At s 0) 256 (omega arith), r .is, r .stands)
+
+string-from-requires : tie.Need-string-from-requires Inv-loop μ-loop
+string-from-requires c κs = search needs
+
+enum-known-to : tie.Need-enum-known-to Inv-loop μ-loop
+enum-known-to c = search needs
+
+enum-told-2 : tie.Need-enum-told-2 Inv-loop μ-loop
+enum-told-2 c = search needs
+
+returns-3 : tie.Need-returns-3 Inv-loop μ-loop
+returns-3 c =
+    let l = c .before .before .before .before .loop in
+    let s = c .before .before .before .before .before .before .before .before .before .before .before .args .s .now in
+    sym (l .inv ∙ strings-stop s (l .at) (l .left) (omega arith) (string-broken s (l .at) (c .before .before .string-from .ensures) (c .enum-told2 .given .1)))
+
+sub-left : tie.Need-sub-left Inv-loop μ-loop
+sub-left c = omega arith
+
+loop-less : tie.Need-loop-less Inv-loop μ-loop
+loop-less c = search needs
+
+loop-again : tie.Need-loop-again Inv-loop μ-loop
+loop-again c =
+    let l = c .before .before .before .before .before .loop in
+    let s = c .before .before .before .before .before .before .before .before .before .before .before .before .args .s .now in
+    let r = string-taken s (l .at) (c .before .before .before .string-from .ensures) (c .before .to .given .1) in
+    l .inv ∙ strings-turn s (l .at) (l .left) (omega arith) (r .good) ∙ rw (r .stands)
+
+returns-4 : tie.Need-returns-4 Inv-loop μ-loop
+returns-4 c =
+    let l = c .before .loop in
+    sym (l .inv ∙ strings-end (drop (l .at) (c .before .before .before .before .before .before .before .before .args .s .now)) (l .left) (omega arith))
 
 pub is-phone-table-spec : {M : Type 1} → statement M
 is-phone-table-spec =
     tie.close
     (tie.spec
+    Inv-loop
+    μ-loop
+    number-from-requires
+    enum-known-n
+    enum-told
     returns
-    count-requires
     returns-2
-    sub-are-strings
-    part-are-strings-start
-    part-are-strings-end
-    are-strings-requires
-    returns-3)
+    loop-holds
+    string-from-requires
+    enum-known-to
+    enum-told-2
+    returns-3
+    sub-left
+    loop-less
+    loop-again
+    returns-4)

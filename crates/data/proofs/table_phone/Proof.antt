@@ -1,12 +1,14 @@
--- `data::table_phone` meets its contract: of the strings from `at` on, the one sought is `left` further. Assumes nothing.
+-- `data::table_phone` meets its contract: of the strings from `at` on, all good, the one sought is `left` further. Assumes nothing.
 use Prim.Native.Nat.{ℕ, _+_, _-_, _≤_, _<_}
 use native.Mathlib.Omega.{arith}
-use mathlib.Core.Path.{_≡_, refl, sym, ap, _∙_}
+use mathlib.Core.Path.{_≡_, sym, ap, _∙_}
 use mathlib.Core.Bool.{true}
 use mathlib.Core.List.{[]}
-use lib.ListN.{length, drop, take, getD}
+use lib.ListN.{drop, getD}
+use Rattle.texts.specs.Choice.{never}
 use Rattle.records.specs.Fields.{u32At}
-use Rattle.data.specs.Sections.{goodString, goodStrings, strings, tablePhones, table-strings, first-good, strings-turn, string-inside, string-here, string-behind}
+use Rattle.data.specs.Sections.{goodString, goodStrings, strings, tablePhones, table-strings, first-good, strings-turn, string-here, string-behind}
+use Rattle.data.specs.Reader.{StringTaken, string-taken, string-broken}
 use borrow.Author.Needs.{needs}
 use Rattle.data.proofs.table_phone.Statement.{statement}
 use Rattle.data.proofs.table_phone.Tie as tie
@@ -16,7 +18,6 @@ Inv-loop s n left₀ at₀ left at =
     (left ≤ n)
     × (goodStrings (u32At s 0 - n + left) (drop at s) ≡ true)
     × (getD (tablePhones s) n [] ≡ getD (strings (u32At s 0 - n + left) (drop at s)) left [])
-    × (at + (1 + getD s at 0) ≤ length s)
 
 abbrev μ-loop : tie.MeasureT-loop
 μ-loop s n left₀ at₀ left at = left
@@ -26,74 +27,85 @@ unfolding tablePhones
 loop-holds c =
     let s = c .before .args .s .now in
     let e : u32At s 0 - c .before .args .n + c .before .args .n ≡ u32At s 0 = omega arith in
-    let k : 0 < u32At s 0 = omega arith in
-    let t = table-strings s (c .before .pre .0) in
-    (omega arith, rw e t, rw e, string-inside s 4 (u32At s 0) k (first-good (drop 4 s) (u32At s 0) k t))
+    (omega arith, rw e (table-strings s (c .before .pre .0)), rw e)
 
-shared-slice-read-wide : tie.Need-shared-slice-read-wide Inv-loop μ-loop
-shared-slice-read-wide c = omega arith
+string-from-requires : tie.Need-string-from-requires Inv-loop μ-loop
+string-from-requires c κs = search needs
 
-wide-requires : tie.Need-wide-requires Inv-loop μ-loop
-wide-requires c κs = search needs
+enum-known-to : tie.Need-enum-known-to Inv-loop μ-loop
+enum-known-to c = search needs
 
-add-at : tie.Need-add-at Inv-loop μ-loop
-add-at c = search needs
+enum-told : tie.Need-enum-told Inv-loop μ-loop
+enum-told c = search needs
 
-add-at-2 : tie.Need-add-at-2 Inv-loop μ-loop
-add-at-2 c = search needs
+returns : tie.Need-returns Inv-loop μ-loop
+returns c =
+    let l = c .before .before .before .before .loop in
+    let a = c .before .before .before .before .before .before .args in
+    let m = u32At (a .s .now) 0 - a .n + l .left in
+    let g = first-good (drop (l .at) (a .s .now)) m (omega arith) (l .inv .1) in
+    never (goodString (drop (l .at) (a .s .now))) g (string-broken (a .s .now) (l .at) (c .before .before .string-from .ensures) (c .enum-told .given .1))
 
 sub-left : tie.Need-sub-left Inv-loop μ-loop
-sub-left c = search needs
+sub-left c = omega arith
 
 loop-less : tie.Need-loop-less Inv-loop μ-loop
 loop-less c = search needs
 
 loop-again : tie.Need-loop-again Inv-loop μ-loop
 loop-again c =
-    let l = c .before .before .before .loop in
-    let s = c .before .before .before .before .before .args .s .now in
-    let m = u32At s 0 - c .before .before .before .before .before .args .n + l .left in
+    let l = c .before .before .before .before .before .loop in
+    let a = c .before .before .before .before .before .before .before .args in
+    let s = a .s .now in
+    let r = string-taken s (l .at) (c .before .before .before .string-from .ensures) (c .before .to .given .1) in
+    let m = u32At s 0 - a .n + l .left in
     let k : 0 < m = omega arith in
-    let j : 0 < m - 1 = omega arith in
-    let e : u32At s 0 - c .before .before .before .before .before .args .n + (l .left - 1) ≡ m - 1 = omega arith in
-    let t = sym (strings-turn s (l .at) m k (first-good (drop (l .at) s) m k (l .inv .1))) ∙ l .inv .1 in
-    let next = l .at + (1 + getD s (l .at) 0) in (
+    let e : u32At s 0 - a .n + (l .left - 1) ≡ m - 1 = omega arith in (
       omega arith,
-      rw (e, c .wide .ensures .0) t,
-      rw (e, c .wide .ensures .0) (l .inv .2 ∙ string-behind s (l .at) m k (l .left) (omega arith)),
-      rw (c .wide .ensures .0) (string-inside s next (m - 1) j (first-good (drop next s) (m - 1) j t)),
+      rw (e, r .stands) (sym (strings-turn s (l .at) m k (r .good)) ∙ l .inv .1),
+      rw (e, r .stands) (l .inv .2 ∙ string-behind s (l .at) m k (l .left) (omega arith)),
     )
 
-add-from : tie.Need-add-from Inv-loop μ-loop
-add-from c = search needs
+string-from-requires-2 : tie.Need-string-from-requires-2 Inv-loop μ-loop
+string-from-requires-2 c κs = search needs
 
-shared-slice-read-wide-2 : tie.Need-shared-slice-read-wide-2 Inv-loop μ-loop
-shared-slice-read-wide-2 c = search needs
+enum-known-from : tie.Need-enum-known-from Inv-loop μ-loop
+enum-known-from c = search needs
 
-wide-requires-2 : tie.Need-wide-requires-2 Inv-loop μ-loop
-wide-requires-2 c κs = search needs
+enum-told-2 : tie.Need-enum-told-2 Inv-loop μ-loop
+enum-told-2 c = search needs
 
-add-to : tie.Need-add-to Inv-loop μ-loop
-add-to c = search needs
+returns-2 : tie.Need-returns-2 Inv-loop μ-loop
+returns-2 c =
+    let l = c .before .before .before .before .loop in
+    let a = c .before .before .before .before .before .before .args in
+    let m = u32At (a .s .now) 0 - a .n + l .left in
+    let g = first-good (drop (l .at) (a .s .now)) m (omega arith) (l .inv .1) in
+    never (goodString (drop (l .at) (a .s .now))) g (string-broken (a .s .now) (l .at) (c .before .before .string-from2 .ensures) (c .enum-told2 .given .1))
+
+-- the string sought
+last : (c : tie.After-known-told2 Inv-loop μ-loop) → StringTaken (c .before .before .before .before .before .before .before .args .s .now) (c .before .before .before .before .before .loop .at) (c .before .from .given .0 .0) (c .before .from .given .0 .1 .0)
+last c = string-taken (c .before .before .before .before .before .before .before .args .s .now) (c .before .before .before .before .before .loop .at) (c .before .before .before .string-from2 .ensures) (c .before .from .given .1)
 
 sub-result : tie.Need-sub-result Inv-loop μ-loop
-sub-result c = search needs
+sub-result c = let r = last c in omega arith
 
 part-result-start : tie.Need-part-result-start Inv-loop μ-loop
-part-result-start c = search needs
+part-result-start c = let r = last c in omega arith
 
 part-result-end : tie.Need-part-result-end Inv-loop μ-loop
-part-result-end c = search needs
+part-result-end c = let r = last c in omega arith
 
-returns : tie.Need-returns Inv-loop μ-loop
-returns c =
-    let l = c .before .before .before .before .loop in
-    let s = c .before .before .before .before .before .before .args .s .now in
-    let n = c .before .wide2 .result in
-    let m = u32At s 0 - c .before .before .before .before .before .before .args .n + l .left in
+returns-3 : tie.Need-returns-3 Inv-loop μ-loop
+returns-3 c =
+    let l = c .before .before .before .before .before .before .loop in
+    let a = c .before .before .before .before .before .before .before .before .args in
+    let s = a .s .now in
+    let r = last (c .before) in
+    let m = u32At s 0 - a .n + l .left in
     let z : l .left ≡ 0 = omega arith in
-    let e : l .at + 1 + n - (l .at + 1) ≡ n = omega arith in
-    rw (e, c .before .wide2 .ensures .0) (sym (l .inv .2 ∙ ap (λ (k : ℕ). getD (strings m (drop (l .at) s)) k []) z ∙ string-here s (l .at) m (omega arith)))
+    let e : l .at + (1 + getD s (l .at) 0) - (l .at + 1) ≡ getD s (l .at) 0 = omega arith in
+    rw (r .starts, r .stands, e) (sym (l .inv .2 ∙ ap (λ (k : ℕ). getD (strings m (drop (l .at) s)) k []) z ∙ string-here s (l .at) m (omega arith)))
 
 pub table-phone-spec : {M : Type 1} → statement M
 table-phone-spec =
@@ -102,18 +114,18 @@ table-phone-spec =
     Inv-loop
     μ-loop
     loop-holds
-    shared-slice-read-wide
-    wide-requires
-    add-at
-    add-at-2
+    string-from-requires
+    enum-known-to
+    enum-told
+    returns
     sub-left
     loop-less
     loop-again
-    add-from
-    shared-slice-read-wide-2
-    wide-requires-2
-    add-to
+    string-from-requires-2
+    enum-known-from
+    enum-told-2
+    returns-2
     sub-result
     part-result-start
     part-result-end
-    returns)
+    returns-3)

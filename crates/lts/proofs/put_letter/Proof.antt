@@ -35,8 +35,10 @@ window-requires c κs = search needs
 slice-aggregate-walk : tie.Need-slice-aggregate-walk
 slice-aggregate-walk c = search needs
 
-count-requires : tie.Need-count-requires
-count-requires c κs = search needs
+table-count-requires : tie.Need-table-count-requires
+table-count-requires c κs =
+    let a = c .before .before .before .before .before .before .before .before .before .before .before .before in
+    trees-table (a .args .phones .now) (a .args .index .now) (a .args .model .now) (a .pre .0)
 
 walk-requires : tie.Need-walk-requires
 walk-requires c κs = search needs
@@ -50,7 +52,7 @@ enum-told c = search needs
 returns : tie.Need-returns
 returns c =
     let a = c .before .before .before .before .before .before .before .before .before .before .before .before .before .before .before .before .args in
-    let w = rw (c .before .before .before .before .before .window .ensures, c .before .before .before .count .ensures .0, c .before .before .before .before .before .before .u16-at .ensures, c .before .before .before .before .before .before .before .wide .ensures .0) at (c .before .before .walk .ensures) in
+    let w = rw (c .before .before .before .before .before .window .ensures, c .before .before .before .table-count .ensures .0, c .before .before .before .before .before .before .u16-at .ensures, c .before .before .before .before .before .before .before .wide .ensures .0) at (c .before .before .walk .ensures) in
     let e = letter-walked (a .phones .now) (a .index .now) (a .model .now) (a .text .now) (a .k) (omega arith) (omega arith) Damaged (sym w ∙ c .enum-told .given .1) in
     rw e refl
 
@@ -62,7 +64,7 @@ table-phone-requires c κs =
     let a = c .before .before .before .before .before .before .before .before .before .before .before .before .before .before .before .before .before .before .args in
     let p = c .before .before .p .given .0 .0 in
     let f = walk-leaf _ _ _ _ _ p (sym (c .before .before .before .before .walk .ensures) ∙ c .before .before .p .given .1) in
-    (trees-table (a .phones .now) (a .index .now) (a .model .now) (c .before .before .before .before .before .before .before .before .before .before .before .before .before .before .before .before .before .before .pre .0), omega (arith, f, c .wide2 .ensures .0, c .before .before .before .before .before .count .ensures .0))
+    (trees-table (a .phones .now) (a .index .now) (a .model .now) (c .before .before .before .before .before .before .before .before .before .before .before .before .before .before .before .before .before .before .pre .0), omega (arith, f, c .wide2 .ensures .0, c .before .before .before .before .before .table-count .ensures .0))
 
 put-leaf-requires : tie.Need-put-leaf-requires
 put-leaf-requires c κs =
@@ -70,7 +72,7 @@ put-leaf-requires c κs =
     let p = c .before .before .before .before .p .given .0 .0 in
     let n = c .before .before .wide2 .result in
     let f = walk-leaf _ _ _ _ _ p (sym (c .before .before .before .before .before .before .walk .ensures) ∙ c .before .before .before .before .p .given .1) in
-    let h : n < u32At (a .phones .now) 0 = omega (arith, f, c .before .before .wide2 .ensures .0, c .before .before .before .before .before .before .before .count .ensures .0) in
+    let h : n < u32At (a .phones .now) 0 = omega (arith, f, c .before .before .wide2 .ensures .0, c .before .before .before .before .before .before .before .table-count .ensures .0) in
     let t = table-fits (a .phones .now) n (trees-table (a .phones .now) (a .index .now) (a .model .now) (c .before .before .before .before .before .before .before .before .before .before .before .before .before .before .before .before .before .before .before .before .pre .0)) h in
     (rw (c .before .table-phone .ensures) (t .short), omega (arith, c .before .before .before .before .before .before .before .before .before .before .before .before .before .before .before .before .before .before .before .before .pre), omega (arith, c .before .before .before .before .before .before .before .before .before .before .before .before .before .before .before .before .before .before .before .before .pre))
 
@@ -81,7 +83,7 @@ returns-2 : tie.Need-returns-2
 returns-2 c =
     let a = c .before .before .before .before .before .before .before .before .before .before .before .before .before .before .before .before .before .before .before .before .before .before .before .args in
     let p = c .before .before .before .before .before .before .before .p .given .0 .0 in
-    let w = rw (c .before .before .before .before .before .before .before .before .before .before .before .before .window .ensures, c .before .before .before .before .before .before .before .before .before .before .count .ensures .0, c .before .before .before .before .before .before .before .before .before .before .before .before .before .u16-at .ensures, c .before .before .before .before .before .before .before .before .before .before .before .before .before .before .wide .ensures .0) at (c .before .before .before .before .before .before .before .before .before .walk .ensures) in
+    let w = rw (c .before .before .before .before .before .before .before .before .before .before .before .before .window .ensures, c .before .before .before .before .before .before .before .before .before .before .table-count .ensures .0, c .before .before .before .before .before .before .before .before .before .before .before .before .before .u16-at .ensures, c .before .before .before .before .before .before .before .before .before .before .before .before .before .before .wide .ensures .0) at (c .before .before .before .before .before .before .before .before .before .walk .ensures) in
     let e = letter-walked (a .phones .now) (a .index .now) (a .model .now) (a .text .now) (a .k) (omega arith) (omega arith) (Phone p) (sym w ∙ c .before .before .before .before .before .before .before .p .given .1) in
     rw (e, ← c .before .before .before .before .before .wide2 .ensures .0, ← c .before .before .before .before .table-phone .ensures) (c .before .before .put-leaf .ensures)
 
@@ -101,7 +103,7 @@ put-letter-spec =
     u16-at-requires
     window-requires
     slice-aggregate-walk
-    count-requires
+    table-count-requires
     walk-requires
     enum-known-p
     enum-told

@@ -1,5 +1,5 @@
 -- `call::check_lexicon` meets its contract: sections are refused first; damage and missing phones decide before falling words. Assumes nothing.
-use Rattle.compiled.specs.Call.{isChecked, checkLexicon}
+use Rattle.compiled.specs.Call.{isChecked, checkLexicon, lexicon-table}
 use borrow.Author.Tests.{not-true, not-false}
 use mathlib.Core.Path.{sym, _∙_}
 use borrow.Author.Needs.{needs}
@@ -14,7 +14,9 @@ unfolding checkLexicon
 returns c = rw (sym (c .before .is-lexicon .ensures) ∙ not-true (c .before .is-lexicon .result) (c .if1 .taken))
 
 are-good-requires : tie.Need-are-good-requires
-are-good-requires c κs = search needs
+are-good-requires c κs =
+    let a = c .before .before .before .before .before .args in
+    lexicon-table (a .phones .now) (a .index .now) (sym (c .before .is-lexicon .ensures) ∙ not-false (c .before .is-lexicon .result) (c .if1 .left))
 
 returns-2 : tie.Need-returns-2
 unfolding checkLexicon isChecked

@@ -20,12 +20,12 @@ abbrev μ-loop : tie.MeasureT-loop
 numbers-requires : tie.Need-numbers-requires Inv-loop μ-loop
 numbers-requires c κs = search needs
 
-count-requires : tie.Need-count-requires Inv-loop μ-loop
-count-requires c κs = search needs
+table-count-requires : tie.Need-table-count-requires Inv-loop μ-loop
+table-count-requires c κs = search needs
 
 loop-holds : tie.Need-loop-holds Inv-loop μ-loop
 unfolding isSpoken
-loop-holds c = (omega arith, rw (c .before .numbers .ensures, c .count .ensures .0))
+loop-holds c = (omega arith, rw (c .before .numbers .ensures, c .table-count .ensures .0))
 
 shared-slice-read-wide : tie.Need-shared-slice-read-wide Inv-loop μ-loop
 shared-slice-read-wide c = search needs
@@ -37,7 +37,7 @@ returns : tie.Need-returns Inv-loop μ-loop
 returns c =
     let l = c .before .before .before .before .loop in
     let ns = c .before .before .before .before .before .before .numbers .result .now in
-    let n = c .before .before .before .before .before .count .result in
+    let n = c .before .before .before .before .before .table-count .result in
     sym (l .inv .1 ∙ every-stop (λ (k : ℕ). ltb k n) ns (l .i) 0 (omega arith) (le-ltb (getD ns (l .i) 0) n (omega arith)))
 
 add-i : tie.Need-add-i Inv-loop μ-loop
@@ -50,13 +50,13 @@ loop-again : tie.Need-loop-again Inv-loop μ-loop
 loop-again c =
     let l = c .before .before .before .before .loop in
     let ns = c .before .before .before .before .before .before .numbers .result .now in
-    let n = c .before .before .before .before .before .count .result in
+    let n = c .before .before .before .before .before .table-count .result in
     (omega arith, l .inv .1 ∙ every-turn (λ (k : ℕ). ltb k n) ns (l .i) 0 (omega arith) (lt-ltb (getD ns (l .i) 0) n (omega arith)))
 
 returns-2 : tie.Need-returns-2 Inv-loop μ-loop
 returns-2 c =
     let l = c .before .loop in
-    let n = c .before .before .count .result in
+    let n = c .before .before .table-count .result in
     sym (l .inv .1 ∙ every-end (λ (k : ℕ). ltb k n) (c .before .before .before .numbers .result .now) (l .i) (omega arith))
 
 pub is-spoken-spec : {M : Type 1} → statement M
@@ -66,7 +66,7 @@ is-spoken-spec =
     Inv-loop
     μ-loop
     numbers-requires
-    count-requires
+    table-count-requires
     loop-holds
     shared-slice-read-wide
     wide-requires
