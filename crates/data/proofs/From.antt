@@ -37,7 +37,9 @@ use Rattle.data.proofs.Contracts.{B, Typed, made, moved, on-slice, on-r
 use Rattle.data.proofs.reader.Reader as T
 use Rattle.data.proofs.reader.Reader.Laws as T′
 
+-- the answer's type, what is taken, the answer's type in MIR, and the three functions that are called
 module _ (row : RattleType) (takes : List ℕ → ℕ → row .Denot) (ty : Ty) (#new #moved callee : Name) where
+  -- the MIR: _0 the answer, _1 the slice (whose type is named "&[]"), _2 the position, _3 the reader there, _4 the reader at the start
   abbrev pub function : Fn
   function = record {
     lifetimes = 1;

@@ -42,7 +42,9 @@ use Rattle.data.proofs.Contracts.{B, Typed, on-slice, on-reader, slice-
 use Rattle.data.proofs.reader.Reader as T
 use Rattle.data.proofs.reader.Reader.Laws as T′
 
+-- the answer's type, what is taken, the answer's type in MIR, and the function on the slice and the position
 module _ (row : RattleType) (takes : List ℕ → ℕ → row .Denot) (ty : Ty) (callee : Name) where
+  -- the MIR: _0 the answer, _1 the reader, _2 its slice (whose type is named "&[]"), _3 its position
   abbrev pub function : Fn
   function = record {
     lifetimes = 1;
@@ -55,7 +57,7 @@ module _ (row : RattleType) (takes : List ℕ → ℕ → row .Denot) (ty : Ty) 
         (seq (call callee (copy (place 2 []) ∷ copy (place 3 []) ∷ []) (place 0 [])) return));
   }
 
-  -- the contracts of the two
+  -- the callee's contract, and its own
   abbrev slice : Ended
   slice = on-slice row takes
 
