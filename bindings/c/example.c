@@ -16,9 +16,7 @@ static const char lts_phones[] = "\1\0\0\0\2ey";
 static const uint8_t lts_index[52] = {0};
 static const char lts_model[] = "\377\0\0\0\0\0";
 
-static uint8_t store[16 * PRONOUNCER_SLOT_BYTES];
-static uint8_t spare[sizeof store];
-static uint8_t sheet[256 * PRONOUNCER_ITEM_BYTES];
+enum { STORE_BYTES = 16 * PRONOUNCER_SLOT_BYTES, SHEET_BYTES = 256 * PRONOUNCER_ITEM_BYTES };
 
 /* Whether a call was refused; if so, says by which number and in which line. */
 static int refused(const char *call, struct pronouncer_answer answer)
@@ -29,18 +27,19 @@ static int refused(const char *call, struct pronouncer_answer answer)
     return 1;
 }
 
-static struct pronouncer_answer say(const char *word)
+static struct pronouncer_answer say(const uint8_t *store, uint8_t *sheet, const char *word)
 {
     return pronouncer_say_word(
         BYTES(lex_phones), BYTES(lex_index), BYTES(lex_data),
         BYTES(lts_phones), lts_index, sizeof lts_index, BYTES(lts_model),
-        store, sizeof store, sheet, sizeof sheet,
+        store, STORE_BYTES, sheet, SHEET_BYTES,
         (const uint8_t *)word, strlen(word), BYTES(""));
 }
 
 int main(void)
 {
-    uint8_t out[256];
+    /* What stands in these bytes does not matter: new_store and new_sheet begin them. */
+    uint8_t store[STORE_BYTES], spare[STORE_BYTES], sheet[SHEET_BYTES], out[256];
     struct pronouncer_answer answer;
 
     if (refused("new_store", pronouncer_new_store(store, sizeof store)) ||
@@ -51,8 +50,8 @@ int main(void)
         BYTES(lex_phones), store, sizeof store, spare, sizeof spare,
         BYTES("# names of tonight\ntormentor n : t ao r m eh n t er\n"));
     if (refused("add_entries", answer) ||
-        refused("say_word", say("Tormentor")) ||
-        refused("say_word", say("k")))
+        refused("say_word", say(store, sheet, "Tormentor")) ||
+        refused("say_word", say(store, sheet, "k")))
         return 1;
 
     answer = pronouncer_phone_string(sheet, sizeof sheet, out, sizeof out);

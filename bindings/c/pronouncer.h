@@ -62,7 +62,8 @@ enum pronouncer_refusal {
     /* A phone list has over 96 phones or a phone over 15 bytes, or an entry to be added has over 24
      * phones. Hand over fewer or shorter ones. */
     PRONOUNCER_PHONES = 7,
-    /* The store has neither an unused slot nor an entry of that word and tag. Lend a longer one. */
+    /* The store has neither an unused slot nor an entry of that word and tag. Lend a longer store with
+     * these bytes in front. */
     PRONOUNCER_FULL = 8,
     /* The sheet has too few unused items, or an output is too short. Begin a new sheet, or lend
      * more bytes. */

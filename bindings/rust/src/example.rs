@@ -1,5 +1,5 @@
-//! Tiny sections to try the calls with: three entries, a phone for each letter, and words of letters with a vowel among
-//! them as sayable ones. They serve the examples here; a show has its own.
+//! Tiny sections to try the calls with: three entries, a phone for each letter, and words of letters with a
+//! vowel among them as sayable ones. They serve the examples here; a show has its own.
 
 use crate::sections::{Letters, Lexicon, Sayable};
 

@@ -1,6 +1,8 @@
-//! The library's C functions, as `bindings/c/pronouncer.h` declares them, each behind a safe function on slices.
+//! The library's C functions, as `bindings/c/pronouncer.h` declares them, each behind a safe function on
+//! slices.
 //!
-//! All `unsafe` of the crate stands here. `tests/signatures` compares the declarations with the Rattle source.
+//! All `unsafe` of the crate stands here. `tests/signatures` compares the declarations with the Rattle
+//! source.
 
 use crate::refusal::{Refusal, Refused};
 

@@ -1,10 +1,11 @@
-//! The pronouncer: which phones a word has, cut into syllables, on a sheet. Eleven calls of a library that is written in
-//! Rattle and proved; this crate is plain Rust around it.
+//! The pronouncer: which phones a word has, cut into syllables, on a sheet. Eleven calls of a library that is
+//! written in Rattle and proved; this crate is plain Rust around it.
 //!
-//! Tables are handed over as borrowed sections ([`Lexicon`], [`Letters`], [`Sayable`]), entries are added to a lent
-//! [`Store`], words are said onto a lent [`Sheet`]. Nothing is allocated, and nothing is kept between calls but the bytes
-//! that were lent. Every call takes any bytes, also those of a stranger's file: it answers, or it is [`Refused`] and leaves
-//! every lent byte as it was, but for the spare of [`Store::add_entries`].
+//! Tables are handed over as borrowed sections ([`Lexicon`], [`Letters`], [`Sayable`]), entries are added to
+//! a lent [`Store`], words are said onto a lent [`Sheet`]. Nothing is allocated, and nothing is kept between
+//! calls but the bytes that were lent. Every call takes any bytes, also those of a stranger's file: it
+//! answers, or it is [`Refused`] and leaves every lent byte as it was, but for the spare of
+//! [`Store::add_entries`].
 //!
 //! ```
 //! use pronouncer::{example, Sheet, Store};
@@ -43,12 +44,18 @@
 //! | `say_word` | [`Sheet::say_word`] |
 //! | `phone_string` | [`Sheet::phone_string`] |
 //!
-//! The layout of sections, store and sheet is told in `docs/FORMATS.md`. The library links into x86-64 programs.
+//! The layout of sections, store and sheet is told in `docs/FORMATS.md`. The library links into x86-64
+//! programs.
 
 #![no_std]
 #![forbid(unsafe_op_in_unsafe_fn)]
 #![deny(unsafe_code)]
 #![warn(missing_docs)]
+
+// The example of bindings/README.md runs as a test, too.
+#[cfg(doctest)]
+#[doc = include_str!("../../README.md")]
+struct Readme;
 
 pub mod example;
 #[allow(unsafe_code)]

@@ -5,8 +5,8 @@ use crate::{foreign, CELL_BYTES, PHONE_BYTES};
 
 /// A phone list in lent bytes: cells of 16 bytes, a length and 15 bytes of text.
 ///
-/// Lists that the library answers are `PhoneList`s over the output that was lent to it. One to hand in is written
-/// from a text, or lent as it is:
+/// Lists that the library answers are `PhoneList`s over the output that was lent to it. One to hand in is
+/// written from a text, or lent as it is:
 ///
 /// ```
 /// use pronouncer::{PhoneList, LIST_BYTES};
@@ -32,7 +32,8 @@ impl<'a> PhoneList<'a> {
     /// Writes the phones of a text, which stand between blanks, into lent bytes, 16 a phone.
     ///
     /// Refused, with the bytes left as they were: [`Text`](Refusal::Text) for a text that is not ASCII,
-    /// [`Phones`](Refusal::Phones) for a phone over 15 bytes, [`Short`](Refusal::Short) where the bytes are too few.
+    /// [`Phones`](Refusal::Phones) for a phone over 15 bytes, [`Short`](Refusal::Short) where the bytes are
+    /// too few.
     pub fn write(text: &str, room: &'a mut [u8]) -> Result<PhoneList<'a>, Refused> {
         let phones = text.split_ascii_whitespace();
         if !text.is_ascii() {
@@ -77,13 +78,13 @@ impl<'a> PhoneList<'a> {
             .map(|cell| text(&cell[1..], cell[0], PHONE_BYTES))
     }
 
-    /// Marks where syllables end: a byte for each phone, 1 behind the last of a syllable, else 0. The marks are the
-    /// first bytes of those lent.
+    /// Marks where syllables end: a byte for each phone, 1 behind the last of a syllable, else 0. The marks
+    /// are the first bytes of those lent.
     ///
     /// The phones are bare, without stress: see [`split_stress`].
     ///
-    /// Refused: [`Text`](Refusal::Text), [`Phones`](Refusal::Phones) for over 96 phones or a phone over 15 bytes,
-    /// [`Short`](Refusal::Short) where the bytes lent for the marks are too few.
+    /// Refused: [`Text`](Refusal::Text), [`Phones`](Refusal::Phones) for over 96 phones or a phone over 15
+    /// bytes, [`Short`](Refusal::Short) where the bytes lent for the marks are too few.
     ///
     /// ```
     /// use pronouncer::PhoneList;

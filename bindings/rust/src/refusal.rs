@@ -90,19 +90,25 @@ impl Refusal {
     /// What to do.
     pub fn cure(self) -> &'static str {
         match self {
-            Refusal::Section => "hand over each section singly, whole and in its place, as docs/FORMATS.md lays it out",
+            Refusal::Section => {
+                "hand over each section singly, whole and in its place, as docs/FORMATS.md lays it out"
+            }
             Refusal::Unsound => {
                 "lend a store of 512 to 65,536 bytes, a multiple of 512, or a sheet of 64 to 65,536, \
                  begin it with new_store or new_sheet, and let only calls write it"
             }
             Refusal::Text => "write it shorter, or in ASCII",
             Refusal::Line => "write WORD TAG : PHONE PHONE, or begin the line with # if it is a remark",
-            Refusal::UnknownPhone => "spell each phone as lex.phones does, with one blank or more between two",
+            Refusal::UnknownPhone => {
+                "spell each phone as lex.phones does, with a blank between two"
+            }
             Refusal::Damaged => {
                 "take a whole copy of the tables; until then add the word to the store, which is read first"
             }
             Refusal::Phones => "hand over fewer or shorter phones",
-            Refusal::Full => "lend a longer store, 512 bytes an entry and 127 entries at most, or use a word and tag that it has",
+            Refusal::Full => {
+                "lend a longer store with these bytes in front: 512 bytes an entry, 127 entries at most"
+            }
             Refusal::Short => {
                 "begin a new sheet, or lend more bytes: 64 for each word, syllable and phone of a sheet, \
                  16 a phone, 1 a mark, 1 a character"
@@ -112,8 +118,8 @@ impl Refusal {
     }
 }
 
-/// A refused call: why, and in which line. Nothing that was lent to the call was altered, but for the spare of
-/// [`Store::add_entries`](crate::Store::add_entries).
+/// A refused call: why, and in which line. Nothing that was lent to the call was altered, but for the spare
+/// of [`Store::add_entries`](crate::Store::add_entries).
 ///
 /// ```
 /// use pronouncer::{Refusal, Refused};

@@ -3,7 +3,8 @@ use crate::refusal::Refused;
 use crate::store::Store;
 use crate::{foreign, CELL_BYTES};
 
-/// The three sections of a compiled lexicon. They may hold any bytes; each call sees for itself that it can read them.
+/// The three sections of a compiled lexicon. They may hold any bytes; each call sees for itself that it can
+/// read them.
 #[derive(Clone, Copy)]
 pub struct Lexicon<'a> {
     /// lex.phones: the phones that entries name by number.
@@ -75,8 +76,9 @@ pub struct Found<'o> {
 }
 
 impl<'a> Lexicon<'a> {
-    /// Whether the lexicon is whole: no entry is damaged, every phone number has a phone, and words don't fall. Ask it
-    /// once of tables that somebody else made; without it each call still sees damage where it meets it.
+    /// Whether the lexicon is whole: no entry is damaged, every phone number has a phone, and words don't
+    /// fall. Ask it once of tables that somebody else made; without it each call still sees damage where it
+    /// meets it.
     ///
     /// Refused: [`Section`](crate::Refusal::Section).
     ///
@@ -97,15 +99,16 @@ impl<'a> Lexicon<'a> {
         Ok(answer.kind == 1)
     }
 
-    /// Looks a word up: in the store, then in the library's own table, then in the lexicon. The phones are written into
-    /// `out`, 16 bytes each; [`LIST_BYTES`](crate::LIST_BYTES) are enough for every word.
+    /// Looks a word up: in the store, then in the library's own table, then in the lexicon. The phones are
+    /// written into `out`, 16 bytes each; [`LIST_BYTES`](crate::LIST_BYTES) are enough for every word.
     ///
-    /// Of a tag the first byte counts, and none is "0". The store and the library's table take any entry when either tag is
-    /// "0"; the lexicon prefers the exact tag. Only the store takes "Cat" for "cat".
+    /// Of a tag the first byte counts, and none is "0". The store and the library's table take any entry when
+    /// either tag is "0"; the lexicon prefers the exact tag. Only the store takes "Cat" for "cat".
     ///
     /// Refused: [`Section`](crate::Refusal::Section), [`Unsound`](crate::Refusal::Unsound) for the store,
-    /// [`Text`](crate::Refusal::Text), [`Damaged`](crate::Refusal::Damaged), [`Phones`](crate::Refusal::Phones) for
-    /// a compiled entry of over 96 phones, [`Short`](crate::Refusal::Short) for `out`.
+    /// [`Text`](crate::Refusal::Text), [`Damaged`](crate::Refusal::Damaged),
+    /// [`Phones`](crate::Refusal::Phones) for a compiled entry of over 96 phones,
+    /// [`Short`](crate::Refusal::Short) for `out`.
     ///
     /// ```
     /// use pronouncer::{example, Source, Store, LIST_BYTES};
@@ -140,7 +143,8 @@ impl<'a> Lexicon<'a> {
 }
 
 impl<'a> Letters<'a> {
-    /// Tells a word's phones from its letters. They are written into `out`, 16 bytes each; 94 phones are the most.
+    /// Tells a word's phones from its letters. They are written into `out`, 16 bytes each; 94 phones are the
+    /// most.
     ///
     /// Only the letters behind the word's last "#" are read.
     ///

@@ -9,8 +9,8 @@ use crate::{ITEM_BYTES, LARGEST_BYTES, PHONE_BYTES, WORD_BYTES};
 
 /// A sheet in lent bytes: the words said so far, with their syllables and phones.
 ///
-/// Items have 64 bytes; the first keeps count, and each word, syllable and phone takes one. With 65,536 bytes there are
-/// 1,023 of them.
+/// Items have 64 bytes; the first keeps count, and each word, syllable and phone takes one. With 65,536 bytes
+/// there are 1,023 of them.
 ///
 /// ```
 /// use pronouncer::{example, Sheet, Store};
@@ -45,19 +45,20 @@ impl<'a> Sheet<'a> {
         Ok(Sheet { bytes })
     }
 
-    /// Bytes that hold a sheet already. They are not looked at here: a call on bytes that are no sound sheet is refused
-    /// with [`Unsound`](crate::Refusal::Unsound).
+    /// Bytes that hold a sheet already. They are not looked at here: a call on bytes that are no sound sheet
+    /// is refused with [`Unsound`](crate::Refusal::Unsound).
     pub fn over(bytes: &'a mut [u8]) -> Sheet<'a> {
         Sheet { bytes }
     }
 
-    /// Says a word: puts it last, with the phones that [`Lexicon::lookup`] finds, or else [`Letters::predict`] tells, cut
-    /// into syllables.
+    /// Says a word: puts it last, with the phones that [`Lexicon::lookup`] finds, or else
+    /// [`Letters::predict`] tells, cut into syllables.
     ///
-    /// Refused: [`Section`](crate::Refusal::Section) for any of the six, [`Unsound`](crate::Refusal::Unsound) for store or
-    /// sheet, [`Text`](crate::Refusal::Text), [`Damaged`](crate::Refusal::Damaged), [`Phones`](crate::Refusal::Phones)
-    /// for a compiled entry of over 96 phones, [`Short`](crate::Refusal::Short) where fewer items are unused than the
-    /// word needs: one, one for each syllable and one for each phone.
+    /// Refused: [`Section`](crate::Refusal::Section) for any of the six, [`Unsound`](crate::Refusal::Unsound)
+    /// for store or sheet, [`Text`](crate::Refusal::Text), [`Damaged`](crate::Refusal::Damaged),
+    /// [`Phones`](crate::Refusal::Phones) for a compiled entry of over 96 phones,
+    /// [`Short`](crate::Refusal::Short) where fewer items are unused than the word needs: one, one for each
+    /// syllable and one for each phone.
     pub fn say_word(
         &mut self,
         lexicon: &Lexicon<'_>,
@@ -74,8 +75,8 @@ impl<'a> Sheet<'a> {
 
     /// Writes all phones of the sheet in order, with one blank between two, into `out`.
     ///
-    /// Refused: [`Unsound`](crate::Refusal::Unsound), [`Short`](crate::Refusal::Short) where `out` has fewer bytes than
-    /// the string.
+    /// Refused: [`Unsound`](crate::Refusal::Unsound), [`Short`](crate::Refusal::Short) where `out` has fewer
+    /// bytes than the string.
     ///
     /// ```
     /// use pronouncer::{example, Sheet, Store};
@@ -233,8 +234,9 @@ impl<'s> Items<'s> {
     }
 }
 
-/// Items of one kind along one of their links. It ends at 0, at an item that does not belong there, and at one that it met
-/// before. As an item belongs to one parent, all chains of a sheet together meet no item twice.
+/// Items of one kind along one of their links. It ends at 0, at an item that does not belong there, and at
+/// one that it met before. As an item belongs to one parent, all chains of a sheet together meet no item
+/// twice.
 #[derive(Clone)]
 struct Chain<'s> {
     items: Items<'s>,

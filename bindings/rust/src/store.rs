@@ -5,10 +5,11 @@ use crate::phones::PhoneList;
 use crate::refusal::Refused;
 use crate::sections::Lexicon;
 
-/// The entries added at run time, in lent bytes: slots of 512 bytes, of which the first keeps count. With 65,536 bytes
-/// there is room for 127 entries.
+/// The entries added at run time, in lent bytes: slots of 512 bytes, of which the first keeps count. With
+/// 65,536 bytes there is room for 127 entries.
 ///
-/// The bytes are all there is to a store. They may be kept in a file and lent again with [`Store::over`].
+/// The bytes are all there is to a store. They may be kept in a file and lent again with [`Store::over`],
+/// also in front of more bytes, which then are unused slots.
 ///
 /// ```
 /// use pronouncer::{example, PhoneList, Store, LIST_BYTES};
@@ -28,20 +29,21 @@ pub struct Store<'a> {
 impl<'a> Store<'a> {
     /// Begins a store without entries, in bytes that may hold anything. Only the first 512 are written.
     ///
-    /// Refused: [`Unsound`](crate::Refusal::Unsound) if the length is not a multiple of 512 from 512 to 65,536.
+    /// Refused: [`Unsound`](crate::Refusal::Unsound) if the length is not a multiple of 512 from 512 to
+    /// 65,536.
     pub fn new_store(bytes: &'a mut [u8]) -> Result<Store<'a>, Refused> {
         foreign::new_store(bytes).accepted()?;
         Ok(Store { bytes })
     }
 
-    /// Bytes that hold a store already. They are not looked at here: a call on bytes that are no sound store is refused
-    /// with [`Unsound`](crate::Refusal::Unsound).
+    /// Bytes that hold a store already. They are not looked at here: a call on bytes that are no sound store
+    /// is refused with [`Unsound`](crate::Refusal::Unsound).
     pub fn over(bytes: &'a mut [u8]) -> Store<'a> {
         Store { bytes }
     }
 
-    /// Adds an entry behind the others; one of the same word and tag goes. The word is kept in small letters. Of a tag the
-    /// first byte counts; none, and "nil", are "0".
+    /// Adds an entry behind the others; one of the same word and tag goes. The word is kept in small letters.
+    /// Of a tag the first byte counts; none, and "nil", are "0".
     ///
     /// Refused: [`Section`](crate::Refusal::Section) for lex.phones, [`Unsound`](crate::Refusal::Unsound),
     /// [`Text`](crate::Refusal::Text), [`UnknownPhone`](crate::Refusal::UnknownPhone),
@@ -60,16 +62,17 @@ impl<'a> Store<'a> {
 
     /// Adds a text of entries, one a line, and tells how many lines it took: all entry lines, or none.
     ///
-    /// A line is `WORD TAG : PHONE PHONE`; the tag may be missing, what stands behind a "#" is a remark, and a line
-    /// without anything else is skipped. The spare is as long as the store. After success it equals the store. Where a line
-    /// is faulty, the store stays as it was and the spare shows how far the text came: it holds the store with the lines
-    /// before.
+    /// A line is `WORD TAG : PHONE PHONE`; the tag may be missing, what stands behind a "#" is a remark, and
+    /// a line without anything else is skipped. The spare is as long as the store. After success it equals
+    /// the store. Where a line is faulty, the store stays as it was and the spare shows how far the text
+    /// came: it holds the store with the lines before.
     ///
     /// Refused with line 0, and then the spare too is left as it was: [`Section`](crate::Refusal::Section),
-    /// [`Unsound`](crate::Refusal::Unsound), also for the spare's length, [`Text`](crate::Refusal::Text) for a byte of 128
-    /// or more anywhere. Refused with the first faulty line: [`Text`](crate::Refusal::Text) for a word or tag over 47
-    /// bytes, [`Line`](crate::Refusal::Line), [`UnknownPhone`](crate::Refusal::UnknownPhone),
-    /// [`Phones`](crate::Refusal::Phones), [`Full`](crate::Refusal::Full).
+    /// [`Unsound`](crate::Refusal::Unsound), also for the spare's length, [`Text`](crate::Refusal::Text) for
+    /// a byte of 128 or more anywhere. Refused with the first faulty line: [`Text`](crate::Refusal::Text) for
+    /// a word or tag over 47 bytes, [`Line`](crate::Refusal::Line),
+    /// [`UnknownPhone`](crate::Refusal::UnknownPhone), [`Phones`](crate::Refusal::Phones),
+    /// [`Full`](crate::Refusal::Full).
     ///
     /// ```
     /// use pronouncer::{example, Refusal, Store};

@@ -92,18 +92,29 @@ fn a_show() {
     );
     assert_eq!(show.reads(), three);
 
-    // A word without phones has no syllables; six items are unused then.
+    // A word without phones has no syllables.
     assert_eq!(show.say(",", ""), Ok(()));
     assert_eq!(show.reads(), format!("{three} ,"));
+}
 
-    // An added entry comes before the lexicon's, and takes capitals; what was said before stays.
+#[test]
+fn entries_between_words() {
+    let mut show = Show::begun();
+    for word in ["lead", "lead", "Lead", ","] {
+        assert_eq!(show.say(word, "v"), Ok(()));
+    }
+    let before = "lead[l iy d 1] lead[l iy d 1] Lead[l eh 1][ae d 1] ,";
+    assert_eq!(show.reads(), before);
+
+    // An added entry comes before the lexicon's, and takes capitals; what was said before stays. Six items
+    // are unused.
     assert_eq!(show.add("Lead", "", &["l", "ih0", "d"]), Ok(()));
     assert_eq!(show.say("LEAD", "v"), Ok(()));
-    assert_eq!(show.reads(), format!("{three} , LEAD[l ih d 0]"));
+    assert_eq!(show.reads(), format!("{before} LEAD[l ih d 0]"));
     assert_eq!(show.say("tabs", ""), Err(Refusal::Short));
     assert_eq!(show.say(".", ""), Ok(()));
     assert_eq!(show.say(".", ""), Err(Refusal::Short));
-    assert_eq!(show.reads(), format!("{three} , LEAD[l ih d 0] ."));
+    assert_eq!(show.reads(), format!("{before} LEAD[l ih d 0] ."));
 
     // A new sheet drops the words, not the entries.
     show.clear();

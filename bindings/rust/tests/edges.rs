@@ -44,6 +44,31 @@ fn a_store_of_127_entries() {
 }
 
 #[test]
+fn a_full_store_in_front_of_more_bytes() {
+    let mut slots = vec![0; 1024];
+    let mut store = Store::new_store(&mut slots).expect("a store");
+    let none = PhoneList::from_cells(b"");
+    assert_eq!(store.add_entry(&NO_WORDS, "a", "", none), Ok(()));
+    assert_eq!(
+        store
+            .add_entry(&NO_WORDS, "b", "", none)
+            .unwrap_err()
+            .refusal,
+        Refusal::Full
+    );
+
+    let mut longer = [store.bytes(), &[0xff; 512]].concat();
+    let mut store = Store::over(&mut longer);
+    assert_eq!(store.add_entry(&NO_WORDS, "b", "", none), Ok(()));
+    for word in ["a", "b"] {
+        assert!(NO_WORDS
+            .lookup(&store, word, "", &mut [])
+            .expect("it is accepted")
+            .is_some());
+    }
+}
+
+#[test]
 fn lengths_of_a_store() {
     for length in [0, 1, 511, 513, 1023, 65_535, 65_537, 66_048] {
         let mut slots = vec![5; length];

@@ -1,5 +1,5 @@
-//! The C header compiles alone, as C and as C++, and the C example links and says its words. Where there is no compiler
-//! these tests say so and pass.
+//! The C header compiles alone, as C and as C++, and the C example links and says its words. Where there is
+//! no compiler these tests say so and pass.
 
 use std::path::{Path, PathBuf};
 use std::process::{Command, Output};

@@ -86,25 +86,35 @@ fn check_lexicon() {
     assert_eq!(cut_off.check_lexicon(), Ok(false));
 }
 
+/// A lexicon whose only entry, cat, has 97 phones.
+fn overlong() -> [Vec<u8>; 3] {
+    let (index, data) = entries(&[("cat", b'0', &[0; 97])]);
+    [phone_table(&["k"]), index, data]
+}
+
 #[test]
 fn lookup() {
     let (mut good, mut bad, mut out) = (new_store(1), vec![7; 512], [9; LIST_BYTES]);
     let (good, bad) = (Store::over(&mut good), Store::over(&mut bad));
+    let run =
+        |lexicon: &Lexicon<'_>, store: &Store<'_>, word: &[u8], tag: &[u8], out: &mut [u8]| {
+            lexicon.lookup(store, word, tag, out).map(drop)
+        };
     let whole = example::LEXICON;
-    for lexicon in broken_lexicons() {
+    for broken in broken_lexicons() {
         stays(&mut out, Refusal::Section, |out| {
-            lexicon.lookup(&bad, BAD_WORDS[0], "", out).map(drop)
+            run(&broken, &bad, BAD_WORDS[0], b"", out)
         });
     }
     stays(&mut out, Refusal::Unsound, |out| {
-        whole.lookup(&bad, BAD_WORDS[0], "", out).map(drop)
+        run(&whole, &bad, BAD_WORDS[0], b"", out)
     });
     for word in BAD_WORDS {
         stays(&mut out, Refusal::Text, |out| {
-            whole.lookup(&good, word, "", out).map(drop)
+            run(&whole, &good, word, b"", out)
         });
         stays(&mut out, Refusal::Text, |out| {
-            whole.lookup(&good, "cat", word, out).map(drop)
+            run(&whole, &good, b"cat", word, out)
         });
     }
     let cut_off = Lexicon {
@@ -112,20 +122,19 @@ fn lookup() {
         ..whole
     };
     stays(&mut out, Refusal::Damaged, |out| {
-        cut_off.lookup(&good, "cat", "", out).map(drop)
+        run(&cut_off, &good, b"cat", b"", out)
     });
-    stays(&mut out[..47], Refusal::Short, |out| {
-        whole.lookup(&good, "cat", "", out).map(drop)
-    });
-
-    let (phones, (index, data)) = (phone_table(&["k"]), entries(&[("cat", b'0', &[0; 97])]));
+    let [phones, index, data] = &overlong();
     let long = Lexicon {
-        phones: &phones,
-        index: &index,
-        data: &data,
+        phones,
+        index,
+        data,
     };
     stays(&mut out[..0], Refusal::Phones, |out| {
-        long.lookup(&good, "cat", "", out).map(drop)
+        run(&long, &good, b"cat", b"", out)
+    });
+    stays(&mut out[..47], Refusal::Short, |out| {
+        run(&whole, &good, b"cat", b"", out)
     });
 }
 
@@ -290,66 +299,117 @@ fn add_entries_at_a_line() {
     }
 }
 
-#[test]
-fn say_word() {
-    let (mut good, mut bad, mut sheet, mut rubbish) =
-        (new_store(1), vec![7; 512], new_sheet(5), vec![7; 320]);
-    let (good, bad) = (Store::over(&mut good), Store::over(&mut bad));
-    let say =
-        |lexicon: Lexicon<'_>,
-         letters: Letters<'_>,
-         store: &Store<'_>,
-         bytes: &mut [u8],
-         word: &[u8],
-         tag: &[u8]| { Sheet::over(bytes).say_word(&lexicon, &letters, store, word, tag) };
+/// What a word is said with; each test spoils some of it.
+#[derive(Clone, Copy)]
+struct Said<'a> {
+    lexicon: Lexicon<'a>,
+    letters: Letters<'a>,
+    store: &'a Store<'a>,
+    word: &'a [u8],
+    tag: &'a [u8],
+}
+
+impl Said<'_> {
+    fn onto(self, sheet: &mut [u8]) -> Result<(), Refused> {
+        Sheet::over(sheet).say_word(
+            &self.lexicon,
+            &self.letters,
+            self.store,
+            self.word,
+            self.tag,
+        )
+    }
+}
+
+/// The word cat on whole sections.
+fn cat<'a>(store: &'a Store<'a>) -> Said<'a> {
     let (lexicon, letters) = (example::LEXICON, example::LETTERS);
+    Said {
+        lexicon,
+        letters,
+        store,
+        word: b"cat",
+        tag: b"",
+    }
+}
+
+#[test]
+fn say_word_with_bad_sections_stores_and_sheets() {
+    let (mut good, mut bad) = (new_store(1), vec![7; 512]);
+    let (good, bad) = (Store::over(&mut good), Store::over(&mut bad));
+    let (mut sheet, mut rubbish) = (new_sheet(5), vec![7; 320]);
+    let long = Said {
+        store: &bad,
+        word: BAD_WORDS[0],
+        ..cat(&good)
+    };
     for lexicon in broken_lexicons() {
         stays(&mut rubbish, Refusal::Section, |bytes| {
-            say(lexicon, letters, &bad, bytes, BAD_WORDS[0], b"")
+            Said { lexicon, ..long }.onto(bytes)
         });
     }
     for letters in broken_letters() {
         stays(&mut rubbish, Refusal::Section, |bytes| {
-            say(lexicon, letters, &bad, bytes, b",", b"")
+            Said { letters, ..long }.onto(bytes)
+        });
+        stays(&mut sheet, Refusal::Section, |bytes| {
+            Said {
+                letters,
+                ..cat(&good)
+            }
+            .onto(bytes)
         });
     }
-    stays(&mut sheet, Refusal::Unsound, |bytes| {
-        say(lexicon, letters, &bad, bytes, BAD_WORDS[0], b"")
-    });
+    stays(&mut sheet, Refusal::Unsound, |bytes| long.onto(bytes));
     stays(&mut rubbish, Refusal::Unsound, |bytes| {
-        say(lexicon, letters, &good, bytes, BAD_WORDS[0], b"")
+        Said {
+            store: &good,
+            ..long
+        }
+        .onto(bytes)
     });
+}
+
+#[test]
+fn say_word_with_bad_words_and_tables() {
+    let (mut slots, mut sheet) = (new_store(1), new_sheet(5));
+    let store = Store::over(&mut slots);
+    let cat = cat(&store);
     for word in BAD_WORDS {
         stays(&mut sheet, Refusal::Text, |bytes| {
-            say(lexicon, letters, &good, bytes, word, b"")
+            Said { word, ..cat }.onto(bytes)
         });
         stays(&mut sheet, Refusal::Text, |bytes| {
-            say(lexicon, letters, &good, bytes, b"cat", word)
+            Said { tag: word, ..cat }.onto(bytes)
         });
     }
     let cut_off = Lexicon {
         data: b"",
-        ..lexicon
+        ..cat.lexicon
     };
     stays(&mut sheet, Refusal::Damaged, |bytes| {
-        say(cut_off, letters, &good, bytes, b"cat", b"")
+        Said {
+            lexicon: cut_off,
+            ..cat
+        }
+        .onto(bytes)
     });
-    stays(&mut sheet, Refusal::Damaged, |bytes| {
-        say(NO_WORDS, NO_TREES, &good, bytes, b"cat", b"")
-    });
-    stays(&mut sheet, Refusal::Short, |bytes| {
-        say(lexicon, letters, &good, bytes, b"cat", b"")
-    });
-
-    let (phones, (index, data)) = (phone_table(&["k"]), entries(&[("cat", b'0', &[0; 97])]));
-    let long = Lexicon {
-        phones: &phones,
-        index: &index,
-        data: &data,
+    let no_tables = Said {
+        lexicon: NO_WORDS,
+        letters: NO_TREES,
+        ..cat
+    };
+    stays(&mut sheet, Refusal::Damaged, |bytes| no_tables.onto(bytes));
+    let [phones, index, data] = &overlong();
+    let lexicon = Lexicon {
+        phones,
+        index,
+        data,
     };
     stays(&mut sheet, Refusal::Phones, |bytes| {
-        say(long, letters, &good, bytes, b"cat", b"")
+        Said { lexicon, ..cat }.onto(bytes)
     });
+    stays(&mut sheet, Refusal::Short, |bytes| cat.onto(bytes));
 }
 
 #[test]

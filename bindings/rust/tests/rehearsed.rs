@@ -186,18 +186,35 @@ fn nil_is_a_tag_of_its_own_in_lookup() {
         .expect_err("nil is 0 in adding, and there is no slot for it");
 }
 
-/// A table of aswd: "#" leads from 0 to cell `start`, where a V may follow.
-fn machine(start: u16, cells: u16) -> Vec<u8> {
-    let mut table = vec![0; 4 + 2 * usize::from(cells)];
-    table[4..6].copy_from_slice(&(128 * start + u16::from(b'#')).to_le_bytes());
-    let at = 4 + 2 * usize::from(start);
-    table[at..at + 2].copy_from_slice(&(128 * start + u16::from(b'V')).to_le_bytes());
-    table
+/// A table of aswd: "#" leads from 0 to cell `start`, where the consonant and V lead back.
+fn machine(start: usize, consonant: u8) -> Vec<u8> {
+    let mut cells = vec![0; start + 3];
+    let to_start = |symbol: u8| 128 * start as u16 + u16::from(symbol);
+    cells[0] = to_start(b'#');
+    cells[start] = to_start(b'V');
+    cells[start + 1] = to_start(consonant);
+    let skipped = [0; 4];
+    skipped
+        .into_iter()
+        .chain(cells.into_iter().flat_map(u16::to_le_bytes))
+        .collect()
+}
+
+#[test]
+fn forwards_in_the_prefix_and_backwards_in_the_suffix() {
+    let (prefix, suffix) = (machine(2, b'k'), machine(2, b's'));
+    let sayable = Sayable {
+        prefix: &prefix,
+        suffix: &suffix,
+    };
+    assert_eq!(sayable.is_sayable("Kits"), Ok(false));
+    assert_eq!(sayable.is_sayable("Kis"), Ok(true));
+    assert_eq!(sayable.is_sayable("Sik"), Ok(false));
 }
 
 #[test]
 fn both_tables_start_at_the_prefixs_hash() {
-    let (prefix, suffix, other) = (machine(2, 4), machine(2, 8), machine(5, 8));
+    let prefix = machine(2, b'k');
     let sayable = |suffix: &[u8]| {
         Sayable {
             prefix: &prefix,
@@ -205,6 +222,6 @@ fn both_tables_start_at_the_prefixs_hash() {
         }
         .is_sayable("a")
     };
-    assert_eq!(sayable(&suffix), Ok(true));
-    assert_eq!(sayable(&other), Ok(false));
+    assert_eq!(sayable(&machine(2, b'k')), Ok(true));
+    assert_eq!(sayable(&machine(3, b'k')), Ok(false));
 }

@@ -96,14 +96,16 @@ fn circles() {
     let link = |items: &mut [u8], item: usize, field: usize, to: u16| {
         items[64 * item + field..64 * item + field + 2].copy_from_slice(&to.to_le_bytes());
     };
-    // The last word leads to the first, a syllable to itself, a phone to the one before.
+    // The last word leads to the first, a syllable to itself, a phone to the one before; a syllable names
+    // another's phones.
     link(&mut items, 6, 2, 1);
     link(&mut items, 2, 2, 2);
     link(&mut items, 4, 2, 3);
     link(&mut items, 4, 12, 3);
+    link(&mut items, 10, 4, 8);
     assert_eq!(
         reading(&Sheet::over(&mut items)),
-        "lead[l iy 1] gobo[g ow 1][b ow 1]"
+        "lead[l iy 1] gobo[g ow 1][ 1]"
     );
     assert_eq!(
         Sheet::over(&mut items).phones().collect::<Vec<_>>(),

@@ -24,7 +24,8 @@ enum Passed {
     Length,
 }
 
-/// The functions that Rattle source exports. `dat` is `data` elsewhere: the proof language reserves that name.
+/// The functions that Rattle source exports. `dat` is `data` elsewhere: the proof language reserves that
+/// name.
 pub fn in_rattle(text: &str) -> Result<Vec<Function>, String> {
     let text = without_comments(text);
     let heads = text.split("#[no_mangle]").skip(1);

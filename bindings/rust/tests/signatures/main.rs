@@ -1,5 +1,6 @@
-//! Nothing checks a foreign declaration against the Rattle source. These tests compare each exported function's signature,
-//! the answer, the numbers and the sizes as the source, the header and this crate tell them.
+//! Nothing checks a foreign declaration against the Rattle source. These tests compare each exported
+//! function's signature, the answer, the numbers and the sizes as the source, the header and this crate tell
+//! them.
 
 mod declared;
 
@@ -91,63 +92,65 @@ fn altered(text: &str, from: &str, to: &str) -> String {
     text.replacen(from, to, 1)
 }
 
+/// Alterations of the header, each with words of what must be told.
+const HEADER_ALTERED: &[(&str, &str, &str)] = &[
+    (
+        "const uint8_t *data, size_t data_len);",
+        "const uint8_t *data);",
+        "data has no length",
+    ),
+    (
+        ",\n    const uint8_t *data, size_t data_len);",
+        ");",
+        "the header has",
+    ),
+    (
+        "const uint8_t *index, size_t index_len",
+        "uint8_t *index, size_t index_len",
+        "the header has",
+    ),
+    (
+        "uint8_t *marks, size_t marks_len",
+        "const uint8_t *marks, size_t marks_len",
+        "the header has",
+    ),
+    (
+        "const uint8_t *word, size_t word_len,\n    const uint8_t *tag, size_t tag_len",
+        "const uint8_t *tag, size_t tag_len,\n    const uint8_t *word, size_t word_len",
+        "the header has",
+    ),
+    (
+        "uint8_t *sheet, size_t sheet_len);",
+        "size_t sheet_len, uint8_t *sheet);",
+        "no length behind it",
+    ),
+    ("size_t phone_len", "int phone_len", "no part of a slice"),
+    (
+        "struct pronouncer_answer pronouncer_new_store",
+        "uint32_t pronouncer_new_store",
+        "the header has",
+    ),
+    (
+        "struct pronouncer_answer pronouncer_new_store",
+        "void pronouncer_new_store",
+        "the header has",
+    ),
+    (
+        "pronouncer_is_vowel(",
+        "pronouncer_is_a_vowel(",
+        "the header lacks pronouncer_is_vowel",
+    ),
+    (
+        "#endif\n\n#endif",
+        "int pronouncer_more(uint8_t *a, size_t a_len);\n#endif\n\n#endif",
+        "the source lacks",
+    ),
+];
+
 #[test]
 fn an_altered_header_is_told() {
-    let alterations = [
-        (
-            "const uint8_t *data, size_t data_len);",
-            "const uint8_t *data);",
-            "data has no length",
-        ),
-        (
-            ",\n    const uint8_t *data, size_t data_len);",
-            ");",
-            "the header has",
-        ),
-        (
-            "const uint8_t *index, size_t index_len",
-            "uint8_t *index, size_t index_len",
-            "the header has",
-        ),
-        (
-            "uint8_t *marks, size_t marks_len",
-            "const uint8_t *marks, size_t marks_len",
-            "the header has",
-        ),
-        (
-            "const uint8_t *word, size_t word_len,\n    const uint8_t *tag, size_t tag_len",
-            "const uint8_t *tag, size_t tag_len,\n    const uint8_t *word, size_t word_len",
-            "the header has",
-        ),
-        (
-            "uint8_t *sheet, size_t sheet_len);",
-            "size_t sheet_len, uint8_t *sheet);",
-            "no length behind it",
-        ),
-        ("size_t phone_len", "int phone_len", "no part of a slice"),
-        (
-            "struct pronouncer_answer pronouncer_new_store",
-            "uint32_t pronouncer_new_store",
-            "the header has",
-        ),
-        (
-            "struct pronouncer_answer pronouncer_new_store",
-            "void pronouncer_new_store",
-            "the header has",
-        ),
-        (
-            "pronouncer_is_vowel(",
-            "pronouncer_is_a_vowel(",
-            "the header lacks pronouncer_is_vowel",
-        ),
-        (
-            "#endif\n\n#endif",
-            "int pronouncer_more(uint8_t *a, size_t a_len);\n#endif\n\n#endif",
-            "the source lacks",
-        ),
-    ];
     let plain = header();
-    for (from, to, wanted) in alterations {
+    for (from, to, wanted) in HEADER_ALTERED {
         let told = compared(&rattle(), &altered(&plain, from, to), &binding());
         assert!(
             told.iter().any(|line| line.contains(wanted)),
@@ -156,23 +159,53 @@ fn an_altered_header_is_told() {
     }
 }
 
+const WORD_AND_TAG: &str = "word: *const u8,
+        word_len: usize,
+        tag: *const u8,
+        tag_len: usize,";
+
+const TAG_AND_WORD: &str = "tag: *const u8, tag_len: usize, word: *const u8, word_len: usize,";
+
+const IS_VOWEL: &str = "fn pronouncer_is_vowel(phone: *const u8, phone_len: usize) -> Answer;";
+
+/// Alterations of the binding, each with words of what must be told.
+const BINDING_ALTERED: &[(&str, &str, &str)] = &[
+    (
+        "index: *const u8,\n        index_len: usize,\n",
+        "",
+        "the binding has",
+    ),
+    ("data: *const u8,", "data: *mut u8,", "the binding has"),
+    ("out: *mut u8,", "out: *const u8,", "the binding has"),
+    (WORD_AND_TAG, TAG_AND_WORD, "the binding has"),
+    ("marks_len: usize", "marks_len: u32", "no part of a slice"),
+    (
+        "store_len: usize) -> Answer",
+        "store_len: usize) -> u32",
+        "the binding has",
+    ),
+    (
+        "store_len: usize) -> Answer",
+        "store_len: usize)",
+        "answers nothing",
+    ),
+    (
+        "pronouncer_new_sheet(",
+        "pronouncer_newer_sheet(",
+        "the binding lacks pronouncer_new_sheet",
+    ),
+    (IS_VOWEL, "", "the binding lacks pronouncer_is_vowel"),
+    (
+        "pronouncer_split_stress(",
+        "pronouncer_is_vowel(",
+        "has pronouncer_is_vowel twice",
+    ),
+];
+
 #[test]
 fn an_altered_binding_is_told() {
-    let alterations = [
-        ("index: *const u8,\n        index_len: usize,\n", "", "the binding has"),
-        ("data: *const u8,", "data: *mut u8,", "the binding has"),
-        ("out: *mut u8,", "out: *const u8,", "the binding has"),
-        ("word: *const u8,\n        word_len: usize,\n        tag: *const u8,\n        tag_len: usize,",
-         "tag: *const u8,\n        tag_len: usize,\n        word: *const u8,\n        word_len: usize,", "the binding has"),
-        ("marks_len: usize", "marks_len: u32", "no part of a slice"),
-        ("store_len: usize) -> Answer", "store_len: usize) -> u32", "the binding has"),
-        ("store_len: usize) -> Answer", "store_len: usize)", "answers nothing"),
-        ("fn pronouncer_new_sheet(", "fn pronouncer_newer_sheet(", "the binding lacks pronouncer_new_sheet"),
-        ("fn pronouncer_is_vowel(phone: *const u8, phone_len: usize) -> Answer;", "", "lacks pronouncer_is_vowel"),
-        ("fn pronouncer_split_stress(", "fn pronouncer_is_vowel(", "has pronouncer_is_vowel twice"),
-    ];
     let plain = binding();
-    for (from, to, wanted) in alterations {
+    for (from, to, wanted) in BINDING_ALTERED {
         let told = compared(&rattle(), &header(), &altered(&plain, from, to));
         assert!(
             told.iter().any(|line| line.contains(wanted)),
