@@ -1,0 +1,62 @@
+/* Adds a name, says it and a letter, and prints the phones. At the top of the repository:
+ *   cc -std=c99 -Ibindings/c bindings/c/example.c target/staticlib/libpronouncer.a -o example
+ */
+#include "pronouncer.h"
+
+#include <stdio.h>
+#include <string.h>
+
+#define BYTES(text) (const uint8_t *)(text), sizeof(text) - 1
+
+/* Sections as small as they can be: no compiled entries, and one phone for every letter. */
+static const char lex_phones[] = "\0\0\0\0";
+static const char lex_index[] = "\0\0\0\0";
+static const char lex_data[] = "";
+static const char lts_phones[] = "\1\0\0\0\2ey";
+static const uint8_t lts_index[52] = {0};
+static const char lts_model[] = "\377\0\0\0\0\0";
+
+enum { STORE_BYTES = 16 * PRONOUNCER_SLOT_BYTES, SHEET_BYTES = 256 * PRONOUNCER_ITEM_BYTES };
+
+/* Whether a call was refused; if so, says by which number and in which line. */
+static int refused(const char *call, struct pronouncer_answer answer)
+{
+    if (answer.refusal == PRONOUNCER_ACCEPTED)
+        return 0;
+    fprintf(stderr, "%s: refusal %u, line %u\n", call, (unsigned)answer.refusal, (unsigned)answer.value);
+    return 1;
+}
+
+static struct pronouncer_answer say(const uint8_t *store, uint8_t *sheet, const char *word)
+{
+    return pronouncer_say_word(
+        BYTES(lex_phones), BYTES(lex_index), BYTES(lex_data),
+        BYTES(lts_phones), lts_index, sizeof lts_index, BYTES(lts_model),
+        store, STORE_BYTES, sheet, SHEET_BYTES,
+        (const uint8_t *)word, strlen(word), BYTES(""));
+}
+
+int main(void)
+{
+    /* What stands in these bytes does not matter: new_store and new_sheet begin them. */
+    uint8_t store[STORE_BYTES], spare[STORE_BYTES], sheet[SHEET_BYTES], out[256];
+    struct pronouncer_answer answer;
+
+    if (refused("new_store", pronouncer_new_store(store, sizeof store)) ||
+        refused("new_sheet", pronouncer_new_sheet(sheet, sizeof sheet)))
+        return 1;
+
+    answer = pronouncer_add_entries(
+        BYTES(lex_phones), store, sizeof store, spare, sizeof spare,
+        BYTES("# names of tonight\ntormentor n : t ao r m eh n t er\n"));
+    if (refused("add_entries", answer) ||
+        refused("say_word", say(store, sheet, "Tormentor")) ||
+        refused("say_word", say(store, sheet, "k")))
+        return 1;
+
+    answer = pronouncer_phone_string(sheet, sizeof sheet, out, sizeof out);
+    if (refused("phone_string", answer))
+        return 1;
+    printf("%.*s\n", (int)answer.value, (const char *)out);
+    return 0;
+}

@@ -1,0 +1,317 @@
+/* The pronouncer: which phones a word has, cut into syllables, on a sheet.
+ *
+ * Link with libpronouncer.a (x86-64). docs/FORMATS.md tells the layout of sections, store, sheet
+ * and phone lists; this file tells what each call takes, answers, refuses and writes.
+ *
+ * Lent bytes. Each argument is a pointer and a length in bytes. The pointer is not NULL, also where
+ * the length is 0. The bytes may be anything: every call takes any bytes and any length. Bytes that
+ * a call may write (those that are not const) must not overlap its other arguments. Nothing is
+ * allocated, and nothing is kept between calls but the lent bytes; calls in several threads are
+ * safe if none writes what another uses.
+ *
+ * Refusals. A refused call leaves every lent byte as it was, but for the spare of
+ * pronouncer_add_entries. Where several numbers apply, the lowest is told.
+ *
+ * Words, tags and texts are bytes, not strings that end at 0. A phone list is cells of 16 bytes: a
+ * length from 0 to 15, then the text. Handed in, it has as many phones as whole cells, and bytes
+ * past a text are ignored. Answered, the bytes past a text are 0.
+ */
+#ifndef PRONOUNCER_H
+#define PRONOUNCER_H
+
+#include <stddef.h>
+#include <stdint.h>
+
+#ifdef __cplusplus
+extern "C" {
+#endif
+
+/* Sizes. A store has 512 to 65,536 bytes, a multiple of 512; its first slot keeps count, so 65,536
+ * bytes hold 127 entries. A sheet has 64 to 65,536 bytes; its first item keeps count, and each
+ * word, syllable and phone takes another, so 65,536 bytes hold 1,023 of them. */
+#define PRONOUNCER_SLOT_BYTES 512
+#define PRONOUNCER_ITEM_BYTES 64
+#define PRONOUNCER_CELL_BYTES 16
+#define PRONOUNCER_LARGEST_BYTES 65536 /* of a store or a sheet */
+#define PRONOUNCER_WORD_BYTES 47       /* of a word or a tag, at most */
+#define PRONOUNCER_PHONE_BYTES 15      /* of a phone, at most */
+#define PRONOUNCER_ENTRY_PHONES 24     /* of an entry to be added, at most */
+#define PRONOUNCER_LIST_PHONES 96      /* of a phone list, at most */
+#define PRONOUNCER_LIST_BYTES 1536     /* of an output that has room for every phone list */
+
+/* Why a call was refused, and what to do. */
+enum pronouncer_refusal {
+    PRONOUNCER_ACCEPTED = 0,
+    /* A section breaks its form. Hand over each section singly, whole and in its place. */
+    PRONOUNCER_SECTION = 1,
+    /* A store or sheet has a wrong length or is not sound, or the spare is not as long as the
+     * store. Lend the lengths above, begin with pronouncer_new_store or pronouncer_new_sheet, and
+     * let only calls write the bytes. */
+    PRONOUNCER_UNSOUND = 2,
+    /* A word or tag is over 47 bytes, or a text has a byte of 128 or more. Write it shorter, or in
+     * ASCII. */
+    PRONOUNCER_TEXT = 3,
+    /* An entry line has no colon, or no word before it. Write WORD TAG : PHONE PHONE, or # before a
+     * remark. */
+    PRONOUNCER_LINE = 4,
+    /* A phone to be added is neither in lex.phones nor one of the 50. Spell it as lex.phones does. */
+    PRONOUNCER_UNKNOWN_PHONE = 5,
+    /* The compiled entry that was read, or the letter tree that was walked, is damaged. Take a
+     * whole copy of the tables; until then add the word to the store, which is read first. */
+    PRONOUNCER_DAMAGED = 6,
+    /* A phone list has over 96 phones or a phone over 15 bytes, or an entry to be added has over 24
+     * phones. Hand over fewer or shorter ones. */
+    PRONOUNCER_PHONES = 7,
+    /* The store has neither an unused slot nor an entry of that word and tag. Lend a longer store with
+     * these bytes in front. */
+    PRONOUNCER_FULL = 8,
+    /* The sheet has too few unused items, or an output is too short. Begin a new sheet, or lend
+     * more bytes. */
+    PRONOUNCER_SHORT = 9
+};
+
+/* Where pronouncer_lookup found a word. */
+enum pronouncer_source {
+    PRONOUNCER_NONE = 0,
+    PRONOUNCER_RUNTIME = 1, /* in the store */
+    PRONOUNCER_ADDENDA = 2, /* in the library's own short table */
+    PRONOUNCER_COMPILED = 3 /* in the lexicon's sections */
+};
+
+/* What every call gives back. */
+struct pronouncer_answer {
+    uint32_t refusal; /* an enum pronouncer_refusal; 0 if the call was accepted */
+    uint32_t kind;    /* a source, or 1 for yes and 0 for no, where the call says so; else 0 */
+    uint64_t value;   /* a count, where the call says so; of a refusal the faulty line; else 0 */
+    uint64_t second;  /* 0 */
+    uint64_t third;   /* 0 */
+};
+
+/* Whether a lexicon is whole.
+ *
+ * phones, index, data: lex.phones, lex.index, lex.data.
+ * Answer: kind 1 if no entry is damaged, every phone number has a phone and words don't fall; else
+ * kind 0.
+ * Refusals:
+ *   1  lex.phones or lex.index breaks its form
+ * Writes nothing.
+ */
+struct pronouncer_answer pronouncer_check_lexicon(
+    const uint8_t *phones, size_t phones_len,
+    const uint8_t *index, size_t index_len,
+    const uint8_t *data, size_t data_len);
+
+/* Looks a word up: in the store, oldest entry first, then in the library's own table, then in the
+ * lexicon. Only the store takes capitals for small letters. Of the tag the first byte counts; no
+ * tag is "0". Store and table take an entry if the tags agree or either is "0"; the lexicon gives
+ * the exact tag, else its first entry of that word.
+ *
+ * phones, index, data: lex.phones, lex.index, lex.data. store: a sound store. word, tag. out: room
+ * for the phones.
+ * Answer: kind is the source, 0 where no source has the word; value is the count of phones.
+ * Refusals:
+ *   1  lex.phones or lex.index breaks its form
+ *   2  the store has a wrong length or is not sound
+ *   3  word or tag is over 47 bytes or has a byte of 128 or more
+ *   6  a compiled entry that was read is damaged
+ *   7  the compiled entry has over 96 phones
+ *   9  out has fewer than 16 bytes a phone
+ * Writes the first 16 * value bytes of out, and no other byte.
+ */
+struct pronouncer_answer pronouncer_lookup(
+    const uint8_t *phones, size_t phones_len,
+    const uint8_t *index, size_t index_len,
+    const uint8_t *data, size_t data_len,
+    const uint8_t *store, size_t store_len,
+    const uint8_t *word, size_t word_len,
+    const uint8_t *tag, size_t tag_len,
+    uint8_t *out, size_t out_len);
+
+/* Tells a word's phones from its letters: those behind its last "#", capitals as small letters.
+ *
+ * phones, index, model: lts.phones, lts.index, lts.model. word. out: room for the phones, which are
+ * 94 at most.
+ * Answer: value is the count of phones.
+ * Refusals:
+ *   1  a section breaks its form
+ *   3  the word is over 47 bytes or has a byte of 128 or more
+ *   6  a tree that was walked is damaged
+ *   9  out has fewer than 16 bytes a phone
+ * Writes the first 16 * value bytes of out, and no other byte.
+ */
+struct pronouncer_answer pronouncer_predict(
+    const uint8_t *phones, size_t phones_len,
+    const uint8_t *index, size_t index_len,
+    const uint8_t *model, size_t model_len,
+    const uint8_t *word, size_t word_len,
+    uint8_t *out, size_t out_len);
+
+/* Marks where syllables end.
+ *
+ * phones: a list of bare phones; a phone that still has its stress is an unknown one, and an unknown
+ * phone is a consonant. marks: room for a byte a phone.
+ * Answer: value is the count of marks, which is the count of phones.
+ * Refusals:
+ *   3  a phone has a byte of 128 or more
+ *   7  there are over 96 phones, or one is over 15 bytes
+ *   9  marks has fewer than one byte a phone
+ * Writes the first value bytes of marks, 1 for the last phone of a syllable, else 0; and no other
+ * byte.
+ */
+struct pronouncer_answer pronouncer_syllabify(
+    const uint8_t *phones, size_t phones_len,
+    uint8_t *marks, size_t marks_len);
+
+/* Whether a word can be said as one; else it is better spelled.
+ *
+ * prefix, suffix: aswd.p, aswd.s. word.
+ * Answer: kind 1 if it can be said, else kind 0.
+ * Refusals:
+ *   1  a section breaks its form
+ *   3  the word is over 47 bytes or has a byte of 128 or more
+ * Writes nothing.
+ */
+struct pronouncer_answer pronouncer_is_sayable(
+    const uint8_t *prefix, size_t prefix_len,
+    const uint8_t *suffix, size_t suffix_len,
+    const uint8_t *word, size_t word_len);
+
+/* Begins a store without entries.
+ *
+ * store: 512 to 65,536 bytes, a multiple of 512, that may hold anything.
+ * Refusals:
+ *   2  the length is another
+ * Writes the first 512 bytes, all 0, and no other byte.
+ */
+struct pronouncer_answer pronouncer_new_store(uint8_t *store, size_t store_len);
+
+/* Adds an entry behind the others. The word is kept in small letters. Of the tag the first byte is
+ * kept; no tag, and "nil", are "0". An entry of that word and tag is replaced: it keeps its slot and
+ * becomes the last.
+ *
+ * table: lex.phones. store: a sound store. word, tag. phones: a list of at most 24, each of them in
+ * lex.phones or one of the 50.
+ * Refusals:
+ *   1  lex.phones breaks its form
+ *   2  the store has a wrong length or is not sound
+ *   3  word or tag is over 47 bytes, or it or a phone has a byte of 128 or more
+ *   5  a phone is neither in lex.phones nor one of the 50, as is one over 15 bytes
+ *   7  there are over 24 phones
+ *   8  there is neither an unused slot nor an entry of that word and tag
+ * Writes the entry's slot, whole, and the links and counts of slots that are used. Slots past the
+ * used ones keep their bytes. The store is sound at exit.
+ */
+struct pronouncer_answer pronouncer_add_entry(
+    const uint8_t *table, size_t table_len,
+    uint8_t *store, size_t store_len,
+    const uint8_t *word, size_t word_len,
+    const uint8_t *tag, size_t tag_len,
+    const uint8_t *phones, size_t phones_len);
+
+/* Adds a text of entries, all of them or none.
+ *
+ * Lines end at byte 10 and count from 1. What stands behind a "#" is a remark; a line that is blank
+ * without it is skipped. The others are entry lines:
+ *     WORD [TAG] [ignored ...] : PHONE PHONE ...
+ * The first colon splits, blanks (bytes 9 to 13 and 32) part the fields, and all outer quote marks
+ * of the word come off. Each line is added as pronouncer_add_entry adds, in turn.
+ *
+ * table: lex.phones. store: a sound store. spare: as many bytes as the store has, that may hold
+ * anything. text.
+ * Answer: value is the count of entry lines taken.
+ * Refusals of the text as a whole, with value 0:
+ *   1  lex.phones breaks its form
+ *   2  the store has a wrong length or is not sound, or the spare's length is not the store's
+ *   3  the text has a byte of 128 or more, in a remark too
+ * Refusals of the first faulty line, with its number as value:
+ *   3  word or tag is over 47 bytes
+ *   4  there is no colon, or no word before it
+ *   5  a phone is neither in lex.phones nor one of the 50
+ *   7  there are over 24 phones
+ *   8  the store, with the lines before, has neither an unused slot nor an entry of that word and tag
+ * Accepted, it writes store and spare, and both are the store with all lines added. Refused as a
+ * whole, it writes nothing. Refused by a line, it writes the spare alone, which is the store with
+ * the lines before added.
+ */
+struct pronouncer_answer pronouncer_add_entries(
+    const uint8_t *table, size_t table_len,
+    uint8_t *store, size_t store_len,
+    uint8_t *spare, size_t spare_len,
+    const uint8_t *text, size_t text_len);
+
+/* Begins a sheet without words.
+ *
+ * sheet: 64 to 65,536 bytes that may hold anything. What is left behind the last whole item is
+ * neither read nor written by any call.
+ * Refusals:
+ *   2  the length is another
+ * Writes the first 64 bytes, all 0, and no other byte.
+ */
+struct pronouncer_answer pronouncer_new_sheet(uint8_t *sheet, size_t sheet_len);
+
+/* Says a word: puts it last on the sheet, with the phones that pronouncer_lookup finds or, where no
+ * source has the word, those of pronouncer_predict. One last "0" or "1" comes off each phone, the
+ * bare phones are cut as by pronouncer_syllabify, and a syllable's stress is the last digit that
+ * came off in it, else "0".
+ *
+ * phones, index, data: lex.phones, lex.index, lex.data. sounds, starts, model: lts.phones,
+ * lts.index, lts.model. store: a sound store. sheet: a sound sheet. word, tag.
+ * Refusals:
+ *   1  one of the six sections breaks its form
+ *   2  store or sheet has a wrong length or is not sound
+ *   3  word or tag is over 47 bytes or has a byte of 128 or more
+ *   6  the compiled entry that was read, or the tree that was walked, is damaged
+ *   7  the compiled entry has over 96 phones
+ *   9  fewer items are unused than the word needs: one, one for each syllable, one for each phone
+ * Writes the word's items, the first unused ones, whole; and the links and counts of item 0, of the
+ * word before and of the phone before. No other byte. The sheet is sound at exit.
+ */
+struct pronouncer_answer pronouncer_say_word(
+    const uint8_t *phones, size_t phones_len,
+    const uint8_t *index, size_t index_len,
+    const uint8_t *data, size_t data_len,
+    const uint8_t *sounds, size_t sounds_len,
+    const uint8_t *starts, size_t starts_len,
+    const uint8_t *model, size_t model_len,
+    const uint8_t *store, size_t store_len,
+    uint8_t *sheet, size_t sheet_len,
+    const uint8_t *word, size_t word_len,
+    const uint8_t *tag, size_t tag_len);
+
+/* Writes all phones of a sheet in order, bare, with one blank (byte 32) between two. No byte 0 ends
+ * them.
+ *
+ * sheet: a sound sheet. out: room for the characters.
+ * Answer: value is the count of bytes.
+ * Refusals:
+ *   2  the sheet has a wrong length or is not sound
+ *   9  out has fewer bytes than the string
+ * Writes the first value bytes of out, and no other byte.
+ */
+struct pronouncer_answer pronouncer_phone_string(
+    const uint8_t *sheet, size_t sheet_len,
+    uint8_t *out, size_t out_len);
+
+/* Beyond the eleven calls: whether a phone is a vowel. An unknown phone is a consonant, and so is
+ * one that has its stress.
+ *
+ * phone: its text, without a length in front.
+ * Answer: kind 1 for a vowel, else kind 0.
+ * Never refused. Writes nothing.
+ */
+struct pronouncer_answer pronouncer_is_vowel(const uint8_t *phone, size_t phone_len);
+
+/* Beyond the eleven calls: the stress of a phone, its last byte if that is "0" or "1".
+ *
+ * phone: its text, without a length in front.
+ * Answer: kind is the stress, 48 or 49, or 0 where there is none; value is the length of the bare
+ * phone.
+ * Never refused. Writes nothing.
+ */
+struct pronouncer_answer pronouncer_split_stress(const uint8_t *phone, size_t phone_len);
+
+#ifdef __cplusplus
+}
+#endif
+
+#endif

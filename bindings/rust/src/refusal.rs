@@ -1,0 +1,164 @@
+use core::error::Error;
+use core::fmt;
+
+/// Why a call was refused. The lowest [number](Refusal::number) that applies is told.
+///
+/// ```
+/// use pronouncer::Refusal;
+///
+/// assert_eq!(Refusal::Full.number(), 8);
+/// assert_eq!(Refusal::Full.cause(), "the store has no unused slot and no entry of that word and tag");
+/// assert!(Refusal::Full.cure().starts_with("lend a longer store"));
+/// ```
+#[derive(Debug, Clone, Copy, PartialEq, Eq, Hash)]
+#[non_exhaustive]
+pub enum Refusal {
+    /// 1: a section breaks its form.
+    Section,
+    /// 2: a store or sheet has a wrong length or is not sound, or the spare's length is not the store's.
+    Unsound,
+    /// 3: a word or tag is over 47 bytes, or a text has a byte of 128 or more.
+    Text,
+    /// 4: an entry line has no colon, or no word before it.
+    Line,
+    /// 5: a phone to be added is neither in lex.phones nor one of the 50.
+    UnknownPhone,
+    /// 6: the compiled entry that was read, or the letter tree that was walked, is damaged.
+    Damaged,
+    /// 7: a phone list has over 96 phones or a phone over 15 bytes, or an entry over 24 phones.
+    Phones,
+    /// 8: the store has neither an unused slot nor an entry of that word and tag.
+    Full,
+    /// 9: the sheet has too few unused items, or an output is too short.
+    Short,
+    /// A number that this crate does not know: the library is a later one.
+    Other(u32),
+}
+
+impl Refusal {
+    /// The library's number for it, the same in C.
+    pub fn number(self) -> u32 {
+        match self {
+            Refusal::Section => 1,
+            Refusal::Unsound => 2,
+            Refusal::Text => 3,
+            Refusal::Line => 4,
+            Refusal::UnknownPhone => 5,
+            Refusal::Damaged => 6,
+            Refusal::Phones => 7,
+            Refusal::Full => 8,
+            Refusal::Short => 9,
+            Refusal::Other(number) => number,
+        }
+    }
+
+    pub(crate) fn of_number(number: u32) -> Refusal {
+        match number {
+            1 => Refusal::Section,
+            2 => Refusal::Unsound,
+            3 => Refusal::Text,
+            4 => Refusal::Line,
+            5 => Refusal::UnknownPhone,
+            6 => Refusal::Damaged,
+            7 => Refusal::Phones,
+            8 => Refusal::Full,
+            9 => Refusal::Short,
+            other => Refusal::Other(other),
+        }
+    }
+
+    /// What is wrong.
+    pub fn cause(self) -> &'static str {
+        match self {
+            Refusal::Section => "a section breaks its form",
+            Refusal::Unsound => {
+                "a store or sheet has a wrong length or is not sound, or the spare is not as long as the store"
+            }
+            Refusal::Text => "a word or tag is over 47 bytes, or a text has a byte of 128 or more",
+            Refusal::Line => "the line has no colon, or no word before it",
+            Refusal::UnknownPhone => "a phone is neither in lex.phones nor one of the 50",
+            Refusal::Damaged => "the lexicon's entry or the letter tree for this word is damaged",
+            Refusal::Phones => {
+                "a phone list has over 96 phones or a phone over 15 bytes, or an entry has over 24 phones"
+            }
+            Refusal::Full => "the store has no unused slot and no entry of that word and tag",
+            Refusal::Short => "the sheet has too few unused items, or the output is too short",
+            Refusal::Other(_) => "the library gave a number that this crate does not know",
+        }
+    }
+
+    /// What to do.
+    pub fn cure(self) -> &'static str {
+        match self {
+            Refusal::Section => {
+                "hand over each section singly, whole and in its place, as docs/FORMATS.md lays it out"
+            }
+            Refusal::Unsound => {
+                "lend a store of 512 to 65,536 bytes, a multiple of 512, or a sheet of 64 to 65,536, \
+                 begin it with new_store or new_sheet, and let only calls write it"
+            }
+            Refusal::Text => "write it shorter, or in ASCII",
+            Refusal::Line => "write WORD TAG : PHONE PHONE, or begin the line with # if it is a remark",
+            Refusal::UnknownPhone => {
+                "spell each phone as lex.phones does, with a blank between two"
+            }
+            Refusal::Damaged => {
+                "take a whole copy of the tables; until then add the word to the store, which is read first"
+            }
+            Refusal::Phones => "hand over fewer or shorter phones",
+            Refusal::Full => {
+                "lend a longer store with these bytes in front: 512 bytes an entry, 127 entries at most"
+            }
+            Refusal::Short => {
+                "begin a new sheet, or lend more bytes: 64 for each word, syllable and phone of a sheet, \
+                 16 a phone, 1 a mark, 1 a character"
+            }
+            Refusal::Other(_) => "build this crate and libpronouncer.a from one checkout",
+        }
+    }
+}
+
+/// A refused call: why, and in which line. Nothing that was lent to the call was altered, but for the spare
+/// of [`Store::add_entries`](crate::Store::add_entries).
+///
+/// ```
+/// use pronouncer::{Refusal, Refused};
+///
+/// let refused = Refused { refusal: Refusal::Line, line: 7 };
+/// assert_eq!(
+///     refused.to_string(),
+///     "line 7: the line has no colon, or no word before it (refusal 4); \
+///      write WORD TAG : PHONE PHONE, or begin the line with # if it is a remark"
+/// );
+/// ```
+#[derive(Debug, Clone, Copy, PartialEq, Eq, Hash)]
+pub struct Refused {
+    /// Why.
+    pub refusal: Refusal,
+    /// The line of the text of entries that is at fault, counted from 1; 0 where no line is.
+    pub line: usize,
+}
+
+impl Refused {
+    pub(crate) fn by(refusal: Refusal) -> Refused {
+        Refused { refusal, line: 0 }
+    }
+}
+
+impl fmt::Display for Refused {
+    fn fmt(&self, f: &mut fmt::Formatter<'_>) -> fmt::Result {
+        if self.line > 0 {
+            write!(f, "line {}: ", self.line)?;
+        }
+        let refusal = self.refusal;
+        write!(
+            f,
+            "{} (refusal {}); {}",
+            refusal.cause(),
+            refusal.number(),
+            refusal.cure()
+        )
+    }
+}
+
+impl Error for Refused {}

@@ -1,0 +1,160 @@
+//! A list of calls on one store and one sheet, refused ones among them, with the sheet read back after each.
+
+mod sections;
+
+use pronouncer::{example, PhoneList, Refusal, Refused, Sheet, Store};
+use sections::{cells, reading};
+
+/// A store and a sheet that live through a list of calls.
+struct Show {
+    slots: Vec<u8>,
+    items: Vec<u8>,
+}
+
+impl Show {
+    /// A store of two entries and a sheet of 24 items, in bytes that held something else.
+    fn begun() -> Show {
+        let mut show = Show {
+            slots: vec![0xff; 3 * 512],
+            items: vec![0xff; 25 * 64 + 5],
+        };
+        Store::new_store(&mut show.slots).expect("a store");
+        show.clear();
+        show
+    }
+
+    fn clear(&mut self) {
+        Sheet::new_sheet(&mut self.items).expect("a sheet");
+    }
+
+    fn add(&mut self, word: &str, tag: &str, phones: &[&str]) -> Result<(), Refusal> {
+        let cells = cells(phones);
+        let mut store = Store::over(&mut self.slots);
+        let told = store.add_entry(&example::LEXICON, word, tag, PhoneList::from_cells(&cells));
+        told.map_err(|refused| refused.refusal)
+    }
+
+    fn add_text(&mut self, text: &str) -> Result<usize, Refused> {
+        let mut spare = vec![3; self.slots.len()];
+        Store::over(&mut self.slots).add_entries(&example::LEXICON, &mut spare, text)
+    }
+
+    fn say(&mut self, word: &str, tag: &str) -> Result<(), Refusal> {
+        let store = Store::over(&mut self.slots);
+        let mut sheet = Sheet::over(&mut self.items);
+        let told = sheet.say_word(&example::LEXICON, &example::LETTERS, &store, word, tag);
+        told.map_err(|refused| refused.refusal)
+    }
+
+    /// What is on the sheet; the phone string and the chain of phones must tell the same phones.
+    fn reads(&mut self) -> String {
+        let sheet = Sheet::over(&mut self.items);
+        let by_words: Vec<&str> = sheet
+            .words()
+            .flat_map(|word| word.syllables())
+            .flat_map(|syllable| syllable.phones())
+            .collect();
+        assert_eq!(by_words, sheet.phones().collect::<Vec<_>>());
+        let mut out = [0; 256];
+        assert_eq!(
+            sheet.phone_string(&mut out),
+            Ok(by_words.join(" ").as_str())
+        );
+        reading(&sheet)
+    }
+}
+
+#[test]
+fn a_show() {
+    let mut show = Show::begun();
+    assert_eq!(show.reads(), "");
+
+    // The lexicon has lead as a noun first, and as a verb; it has no capitals, so Lead goes to the letters.
+    assert_eq!(show.say("lead", ""), Ok(()));
+    assert_eq!(show.say("lead", "v"), Ok(()));
+    assert_eq!(show.say("Lead", ""), Ok(()));
+    let three = "lead[l eh d 1] lead[l iy d 1] Lead[l eh 1][ae d 1]";
+    assert_eq!(show.reads(), three);
+
+    // Refused calls change nothing.
+    assert_eq!(show.say("", &"v".repeat(48)), Err(Refusal::Text));
+    assert_eq!(
+        show.add("lead", "", &["l", "qq", "d"]),
+        Err(Refusal::UnknownPhone)
+    );
+    let stopped = show.add_text("lead : l ih d\nlead v l iy d");
+    assert_eq!(
+        stopped,
+        Err(Refused {
+            refusal: Refusal::Line,
+            line: 2
+        })
+    );
+    assert_eq!(show.reads(), three);
+
+    // A word without phones has no syllables.
+    assert_eq!(show.say(",", ""), Ok(()));
+    assert_eq!(show.reads(), format!("{three} ,"));
+}
+
+#[test]
+fn entries_between_words() {
+    let mut show = Show::begun();
+    for word in ["lead", "lead", "Lead", ","] {
+        assert_eq!(show.say(word, "v"), Ok(()));
+    }
+    let before = "lead[l iy d 1] lead[l iy d 1] Lead[l eh 1][ae d 1] ,";
+    assert_eq!(show.reads(), before);
+
+    // An added entry comes before the lexicon's, and takes capitals; what was said before stays. Six items
+    // are unused.
+    assert_eq!(show.add("Lead", "", &["l", "ih0", "d"]), Ok(()));
+    assert_eq!(show.say("LEAD", "v"), Ok(()));
+    assert_eq!(show.reads(), format!("{before} LEAD[l ih d 0]"));
+    assert_eq!(show.say("tabs", ""), Err(Refusal::Short));
+    assert_eq!(show.say(".", ""), Ok(()));
+    assert_eq!(show.say(".", ""), Err(Refusal::Short));
+    assert_eq!(show.reads(), format!("{before} LEAD[l ih d 0] ."));
+
+    // A new sheet drops the words, not the entries.
+    show.clear();
+    assert_eq!(show.reads(), "");
+    assert_eq!(show.say("lead", "n"), Ok(()));
+    assert_eq!(show.reads(), "lead[l ih d 0]");
+}
+
+#[test]
+fn a_text_is_taken_whole_or_not_at_all() {
+    let mut show = Show::begun();
+    let too_many = "a : k\nb : k\nc : k";
+    assert_eq!(
+        show.add_text(too_many),
+        Err(Refused {
+            refusal: Refusal::Full,
+            line: 3
+        })
+    );
+    assert_eq!(show.say("b", ""), Ok(()));
+    assert_eq!(
+        show.add_text(
+            "# tonight\n\"gobo\" n : g ow1 b ow0 # twice\nGobo n : g ow0 b ow1\n\nb : iy1"
+        ),
+        Ok(3)
+    );
+    for word in ["gobo", "b"] {
+        assert_eq!(show.say(word, ""), Ok(()));
+    }
+    assert_eq!(show.reads(), "b[b 0] gobo[g ow 0][b ow 1] b[iy 1]");
+}
+
+#[test]
+fn entries_of_other_racks() {
+    // A store's bytes are all there is to it: they are read again elsewhere.
+    let mut show = Show::begun();
+    assert_eq!(show.add("iris", "n", &["ay1", "r", "ih0", "s"]), Ok(()));
+    let kept = show.slots.clone();
+    let mut other = Show::begun();
+    other.slots = kept;
+    assert_eq!(other.say("Iris", ""), Ok(()));
+    assert_eq!(other.reads(), "Iris[ay 1][r ih s 0]");
+}

@@ -1,0 +1,347 @@
+//! Nothing checks a foreign declaration against the Rattle source. These tests compare each exported
+//! function's signature, the answer, the numbers and the sizes as the source, the header and this crate tell
+//! them.
+
+mod declared;
+
+use declared::{differences, fields_in_c, fields_in_rust, in_c, in_rattle, in_rust, Function};
+use pronouncer::{Refusal, Source};
+use std::fs;
+use std::path::Path;
+
+const CALLS: [&str; 13] = [
+    "check_lexicon",
+    "lookup",
+    "predict",
+    "syllabify",
+    "is_sayable",
+    "new_store",
+    "add_entry",
+    "add_entries",
+    "new_sheet",
+    "say_word",
+    "phone_string",
+    "is_vowel",
+    "split_stress",
+];
+
+fn text_of(path: &str) -> String {
+    let whole = Path::new(env!("CARGO_MANIFEST_DIR"))
+        .join("../..")
+        .join(path);
+    fs::read_to_string(&whole).unwrap_or_else(|fault| panic!("{}: {fault}", whole.display()))
+}
+
+fn rattle() -> String {
+    text_of("crates/pronouncer/src/lib.rt")
+}
+
+fn answers() -> String {
+    text_of("crates/answers/src/lib.rt")
+}
+
+fn header() -> String {
+    text_of("bindings/c/pronouncer.h")
+}
+
+fn binding() -> String {
+    text_of("bindings/rust/src/foreign.rs")
+}
+
+/// Where header and binding part from the source.
+fn compared(rattle: &str, header: &str, binding: &str) -> Vec<String> {
+    let source = in_rattle(rattle).expect("the Rattle source can be read");
+    let beside = |place, found: Result<Vec<Function>, String>| match found {
+        Ok(found) => differences(&source, place, &found),
+        Err(fault) => vec![fault],
+    };
+    [
+        beside("the header", in_c(header)),
+        beside("the binding", in_rust(binding)),
+    ]
+    .concat()
+}
+
+#[test]
+fn signatures_are_the_sources() {
+    let source = in_rattle(&rattle()).expect("the Rattle source can be read");
+    let mut names: Vec<String> = source
+        .iter()
+        .map(|function| function.name.clone())
+        .collect();
+    let mut wanted = CALLS.map(|call| format!("pronouncer_{call}"));
+    names.sort();
+    wanted.sort();
+    assert_eq!(names, wanted);
+
+    let told = compared(&rattle(), &header(), &binding());
+    assert!(told.is_empty(), "{}", told.join("\n"));
+}
+
+#[test]
+fn the_answer_is_the_sources() {
+    let source = fields_in_rust(&answers()).expect("the source's answer can be read");
+    assert_eq!(source.len(), 5);
+    assert_eq!(fields_in_c(&header()), Ok(source.clone()));
+    assert_eq!(fields_in_rust(&binding()), Ok(source));
+}
+
+/// One alteration of a text, which must stand there.
+fn altered(text: &str, from: &str, to: &str) -> String {
+    assert!(text.contains(from), "there is no {from:?}");
+    text.replacen(from, to, 1)
+}
+
+/// Alterations of the header, each with words of what must be told.
+const HEADER_ALTERED: &[(&str, &str, &str)] = &[
+    (
+        "const uint8_t *data, size_t data_len);",
+        "const uint8_t *data);",
+        "data has no length",
+    ),
+    (
+        ",\n    const uint8_t *data, size_t data_len);",
+        ");",
+        "the header has",
+    ),
+    (
+        "const uint8_t *index, size_t index_len",
+        "uint8_t *index, size_t index_len",
+        "the header has",
+    ),
+    (
+        "uint8_t *marks, size_t marks_len",
+        "const uint8_t *marks, size_t marks_len",
+        "the header has",
+    ),
+    (
+        "const uint8_t *word, size_t word_len,\n    const uint8_t *tag, size_t tag_len",
+        "const uint8_t *tag, size_t tag_len,\n    const uint8_t *word, size_t word_len",
+        "the header has",
+    ),
+    (
+        "uint8_t *sheet, size_t sheet_len);",
+        "size_t sheet_len, uint8_t *sheet);",
+        "no length behind it",
+    ),
+    ("size_t phone_len", "int phone_len", "no part of a slice"),
+    (
+        "struct pronouncer_answer pronouncer_new_store",
+        "uint32_t pronouncer_new_store",
+        "the header has",
+    ),
+    (
+        "struct pronouncer_answer pronouncer_new_store",
+        "void pronouncer_new_store",
+        "the header has",
+    ),
+    (
+        "pronouncer_is_vowel(",
+        "pronouncer_is_a_vowel(",
+        "the header lacks pronouncer_is_vowel",
+    ),
+    (
+        "#endif\n\n#endif",
+        "int pronouncer_more(uint8_t *a, size_t a_len);\n#endif\n\n#endif",
+        "the source lacks",
+    ),
+];
+
+#[test]
+fn an_altered_header_is_told() {
+    let plain = header();
+    for (from, to, wanted) in HEADER_ALTERED {
+        let told = compared(&rattle(), &altered(&plain, from, to), &binding());
+        assert!(
+            told.iter().any(|line| line.contains(wanted)),
+            "{from:?} to {to:?}: {told:?}"
+        );
+    }
+}
+
+const WORD_AND_TAG: &str = "word: *const u8,
+        word_len: usize,
+        tag: *const u8,
+        tag_len: usize,";
+
+const TAG_AND_WORD: &str = "tag: *const u8, tag_len: usize, word: *const u8, word_len: usize,";
+
+const IS_VOWEL: &str = "fn pronouncer_is_vowel(phone: *const u8, phone_len: usize) -> Answer;";
+
+/// Alterations of the binding, each with words of what must be told.
+const BINDING_ALTERED: &[(&str, &str, &str)] = &[
+    (
+        "index: *const u8,\n        index_len: usize,\n",
+        "",
+        "the binding has",
+    ),
+    ("data: *const u8,", "data: *mut u8,", "the binding has"),
+    ("out: *mut u8,", "out: *const u8,", "the binding has"),
+    (WORD_AND_TAG, TAG_AND_WORD, "the binding has"),
+    ("marks_len: usize", "marks_len: u32", "no part of a slice"),
+    (
+        "store_len: usize) -> Answer",
+        "store_len: usize) -> u32",
+        "the binding has",
+    ),
+    (
+        "store_len: usize) -> Answer",
+        "store_len: usize)",
+        "answers nothing",
+    ),
+    (
+        "pronouncer_new_sheet(",
+        "pronouncer_newer_sheet(",
+        "the binding lacks pronouncer_new_sheet",
+    ),
+    (IS_VOWEL, "", "the binding lacks pronouncer_is_vowel"),
+    (
+        "pronouncer_split_stress(",
+        "pronouncer_is_vowel(",
+        "has pronouncer_is_vowel twice",
+    ),
+];
+
+#[test]
+fn an_altered_binding_is_told() {
+    let plain = binding();
+    for (from, to, wanted) in BINDING_ALTERED {
+        let told = compared(&rattle(), &header(), &altered(&plain, from, to));
+        assert!(
+            told.iter().any(|line| line.contains(wanted)),
+            "{from:?} to {to:?}: {told:?}"
+        );
+    }
+}
+
+#[test]
+fn an_altered_source_is_told() {
+    let alterations = [
+        (
+            "pronouncer_syllabify(phones: &[u8], marks: &mut [u8])",
+            "pronouncer_syllabify(phones: &[u8])",
+        ),
+        (
+            "pronouncer_syllabify(phones: &[u8], marks: &mut [u8])",
+            "pronouncer_syllabify(phones: &[u8], marks: &[u8])",
+        ),
+        (
+            "pronouncer_syllabify(phones: &[u8], marks: &mut [u8])",
+            "pronouncer_syllabify(marks: &mut [u8], phones: &[u8])",
+        ),
+        (
+            "pronouncer_new_store(store: &mut [u8]) -> Answer",
+            "pronouncer_new_store(store: &mut [u8]) -> Count",
+        ),
+        ("fn pronouncer_new_sheet(", "fn pronouncer_next_sheet("),
+        (
+            "// a sheet\n",
+            "#[no_mangle]\npub extern \"C\" fn pronouncer_close(sheet: &mut [u8]) -> Answer {}\n",
+        ),
+    ];
+    let plain = rattle();
+    for (from, to) in alterations {
+        let told = compared(&altered(&plain, from, to), &header(), &binding());
+        assert!(
+            told.len() >= 2,
+            "header and binding both part from {to:?}: {told:?}"
+        );
+    }
+}
+
+#[test]
+fn an_altered_answer_is_told() {
+    let source = fields_in_rust(&answers());
+    for (from, to) in [
+        ("uint32_t kind;", "uint64_t kind;"),
+        ("uint64_t third;", ""),
+        ("uint64_t second;", "uint64_t other;"),
+        ("uint64_t value;", "int64_t value;"),
+    ] {
+        assert_ne!(fields_in_c(&altered(&header(), from, to)), source, "{to}");
+    }
+    for (from, to) in [
+        ("pub kind: u32,", "pub kind: u64,"),
+        ("pub third: u64,", ""),
+        ("#[repr(C)]", ""),
+        (
+            "pub value: u64,\n    pub second: u64,",
+            "pub second: u64,\n    pub value: u64,",
+        ),
+    ] {
+        assert_ne!(
+            fields_in_rust(&altered(&binding(), from, to)),
+            source,
+            "{to}"
+        );
+    }
+}
+
+/// A name as C constants are written: `UnknownPhone` is `UNKNOWN_PHONE`.
+fn constant(name: &str) -> String {
+    let mut constant = String::new();
+    for letter in name.chars() {
+        if letter.is_uppercase() && !constant.is_empty() {
+            constant.push('_');
+        }
+        constant.push(letter.to_ascii_uppercase());
+    }
+    constant
+}
+
+/// Sees that a case of an enum has one number in the Rattle source, in the header and here.
+fn same_number(kind: &str, case: &str, number: u32) {
+    let row = format!("{kind}::{case} => {number},");
+    assert!(answers().contains(&row), "the source lacks {row}");
+    let row = format!("    PRONOUNCER_{} = {number}", constant(case));
+    let is_there = header()
+        .lines()
+        .any(|line| line.trim_end_matches(',').starts_with(&row));
+    assert!(is_there, "the header lacks {row}");
+}
+
+#[test]
+fn numbers_are_the_sources() {
+    let refusals = [
+        Refusal::Section,
+        Refusal::Unsound,
+        Refusal::Text,
+        Refusal::Line,
+        Refusal::UnknownPhone,
+        Refusal::Damaged,
+        Refusal::Phones,
+        Refusal::Full,
+        Refusal::Short,
+    ];
+    for (place, refusal) in refusals.iter().enumerate() {
+        assert_eq!(refusal.number() as usize, place + 1);
+        same_number("Refusal", &format!("{refusal:?}"), refusal.number());
+    }
+    assert_eq!(answers().matches("Refusal::").count(), refusals.len());
+    for source in [Source::Runtime, Source::Addenda, Source::Compiled] {
+        same_number("Source", &format!("{source:?}"), source.number());
+    }
+}
+
+#[test]
+fn sizes_are_the_headers() {
+    let sizes = [
+        ("SLOT_BYTES", pronouncer::SLOT_BYTES, 512),
+        ("ITEM_BYTES", pronouncer::ITEM_BYTES, 64),
+        ("CELL_BYTES", pronouncer::CELL_BYTES, 16),
+        ("LARGEST_BYTES", pronouncer::LARGEST_BYTES, 65_536),
+        ("WORD_BYTES", pronouncer::WORD_BYTES, 47),
+        ("PHONE_BYTES", pronouncer::PHONE_BYTES, 15),
+        ("ENTRY_PHONES", pronouncer::ENTRY_PHONES, 24),
+        ("LIST_PHONES", pronouncer::LIST_PHONES, 96),
+        ("LIST_BYTES", pronouncer::LIST_BYTES, 96 * 16),
+    ];
+    for (name, here, scope) in sizes {
+        assert_eq!(here, scope, "{name}");
+        let row = format!("#define PRONOUNCER_{name} {scope}");
+        let is_there = header()
+            .lines()
+            .any(|line| line.split(" /*").next().unwrap_or("").trim_end() == row);
+        assert!(is_there, "the header lacks {row}");
+    }
+}
