@@ -54,13 +54,10 @@ fn check_trees(phones: &[u8], index: &[u8], model: &[u8]) -> Reason {
     let table = forms::check_table(b"lts.phones", phones);
     let starts = forms::check_starts(index);
     let nodes = forms::check_model(model);
-    if !table {
+    if !texts::both(table, texts::both(starts, nodes)) {
         return Reason::Form;
     }
-    if !texts::both(starts, nodes) {
-        return Reason::Form;
-    }
-    trees::check(index, model, data::table_count(phones))
+    trees::check(index, model, data::count(phones))
 }
 
 fn check_letters(folder: &[u8]) -> Reason {

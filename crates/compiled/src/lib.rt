@@ -8,7 +8,9 @@ pub use call::check_lexicon;
 pub use call::is_lexicon;
 pub use entries::entry;
 pub use entries::is_spoken;
+pub use entries::is_whole;
 pub use entries::numbers;
+pub use entries::word;
 pub use search::choose;
 
 // An entry's number; or that there is none, or that an entry which was read is damaged.

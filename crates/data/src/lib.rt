@@ -9,6 +9,8 @@ ghost use Rattle.data.specs.Sections.{isPhoneTable, tablePhones, isListe
 
 mod reader;
 
+pub use reader::string_from;
+
 // A number that a reader took, and where it then stands.
 pub enum Number {
     Is(usize, usize),
