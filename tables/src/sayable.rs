@@ -1,0 +1,220 @@
+//! sayable.txt and the machines aswd.p and aswd.s.
+
+use std::collections::{BTreeMap, HashMap};
+
+use crate::fault::{Fault, Faults};
+use crate::lines::{self, Line};
+
+pub const FILE: &str = "sayable.txt";
+
+/// The state in which a machine stands behind "#", in both tables; the cell before it ends state 0.
+const START: usize = 2;
+/// Where a vowel leads: a state without cells.
+const DONE: usize = 1;
+/// The largest state number, for a cell holds it above its 7 bits of symbol.
+const LAST_STATE: usize = (u16::MAX / 128) as usize;
+
+/// The cells of the two machines.
+pub struct Machines {
+    pub beginnings: Vec<u16>,
+    pub endings: Vec<u16>,
+}
+
+/// What a line lists.
+#[derive(Clone, Copy, PartialEq, Eq)]
+enum Side {
+    Beginnings,
+    Endings,
+}
+
+/// A list of clusters with the number of their line.
+struct Listed<'a> {
+    number: usize,
+    side: Side,
+    clusters: Vec<&'a str>,
+}
+
+/// The two machines of a text.
+pub fn read(bytes: &[u8]) -> Result<Machines, Vec<Fault>> {
+    let mut faults = Faults::of(FILE);
+    let mut listed = Vec::new();
+    for line in lines::read(bytes, &mut faults) {
+        match clusters(&line) {
+            Ok(list) => listed.push(list),
+            Err(sentence) => faults.add(line.number, sentence),
+        }
+    }
+    let beginnings = machine(&listed, Side::Beginnings, &mut faults);
+    let endings = machine(&listed, Side::Endings, &mut faults);
+    faults.unless_any(Machines {
+        beginnings,
+        endings,
+    })
+}
+
+/// The list of a line, `begin : CLUSTERS` or `end : CLUSTERS`.
+fn clusters<'a>(line: &Line<'a>) -> Result<Listed<'a>, String> {
+    let form = "write begin : CLUSTERS or end : CLUSTERS";
+    let Some((head, tail)) = line.text.split_once(':') else {
+        return Err(format!("there is no colon; {form}"));
+    };
+    let side = match lines::fields(head)[..] {
+        ["begin"] => Side::Beginnings,
+        ["end"] => Side::Endings,
+        _ => {
+            return Err(format!(
+                "neither \"begin\" nor \"end\" stands before the colon; {form}"
+            ))
+        }
+    };
+    let clusters = lines::fields(tail);
+    for cluster in &clusters {
+        check(cluster)?;
+    }
+    Ok(Listed {
+        number: line.number,
+        side,
+        clusters,
+    })
+}
+
+fn check(cluster: &str) -> Result<(), String> {
+    for letter in cluster.bytes() {
+        if symbol(letter) == b'V' {
+            return Err(format!(
+                "\"{cluster}\" has the vowel {}; write only what stands before the first or behind the last vowel",
+                letter as char
+            ));
+        }
+        if !letter.is_ascii_lowercase() && letter != b'\'' {
+            return Err(format!(
+                "\"{cluster}\" is no cluster; write letters from a to z and apostrophes"
+            ));
+        }
+    }
+    Ok(())
+}
+
+/// A letter as the machines see it.
+fn symbol(letter: u8) -> u8 {
+    match letter {
+        b'n' | b'm' => b'N',
+        b'a' | b'e' | b'i' | b'o' | b'u' | b'y' => b'V',
+        other => other,
+    }
+}
+
+/// The cells of one side's machine. If they are too many, the first line with which they are is told.
+fn machine(listed: &[Listed], side: Side, faults: &mut Faults) -> Vec<u16> {
+    let lists = listed.iter().filter(|list| list.side == side);
+    let mut graph = Graph::default();
+    let root = graph.add_state();
+    let mut cells = graph.cells(root);
+    for list in lists {
+        for cluster in &list.clusters {
+            match side {
+                Side::Beginnings => graph.accept(root, cluster.bytes()),
+                Side::Endings => graph.accept(root, cluster.bytes().rev()),
+            }
+        }
+        cells = graph.cells(root);
+        if cells.is_none() {
+            faults.add(
+                list.number,
+                "with these clusters the machine has a state above 511; write fewer clusters",
+            );
+            break;
+        }
+    }
+    cells.unwrap_or_default()
+}
+
+/// States with their steps by symbol; each may also step on a vowel.
+#[derive(Default)]
+struct Graph {
+    steps: Vec<BTreeMap<u8, usize>>,
+    vowel: Vec<bool>,
+}
+
+impl Graph {
+    /// A state; the one before any letter takes a vowel, so that words may begin and end with one.
+    fn add_state(&mut self) -> usize {
+        self.vowel.push(self.steps.is_empty());
+        self.steps.push(BTreeMap::new());
+        self.steps.len() - 1
+    }
+
+    /// Lets a cluster lead to a vowel.
+    fn accept(&mut self, root: usize, letters: impl Iterator<Item = u8>) {
+        let mut state = root;
+        for letter in letters {
+            let symbol = symbol(letter);
+            state = match self.steps[state].get(&symbol) {
+                Some(&next) => next,
+                None => {
+                    let next = self.add_state();
+                    self.steps[state].insert(symbol, next);
+                    next
+                }
+            };
+        }
+        self.vowel[state] = true;
+    }
+
+    /// The cells, each set of steps written once; none if a state lies above the last number.
+    fn cells(&self, root: usize) -> Option<Vec<u16>> {
+        let mut cells = vec![cell(b'#', START), 0];
+        let mut places = HashMap::new();
+        let classes = self.classes();
+        let mut waiting = vec![root];
+        let mut holes = Vec::new();
+        while let Some(state) = waiting.pop() {
+            if places.contains_key(&classes[state]) {
+                continue;
+            }
+            if cells.len() > LAST_STATE {
+                return None;
+            }
+            places.insert(classes[state], cells.len());
+            if self.vowel[state] {
+                cells.push(cell(b'V', DONE));
+            }
+            for (&symbol, &next) in &self.steps[state] {
+                holes.push((cells.len(), symbol, classes[next]));
+                cells.push(0);
+                waiting.push(next);
+            }
+            cells.push(0);
+        }
+        for (place, symbol, class) in holes {
+            cells[place] = cell(symbol, places[&class]);
+        }
+        Some(cells)
+    }
+
+    /// A number for each state; states with equal steps have the same one. Children come behind their parents.
+    fn classes(&self) -> Vec<usize> {
+        let mut known = HashMap::new();
+        let mut classes = vec![0; self.steps.len()];
+        for state in (0..self.steps.len()).rev() {
+            let steps: Vec<(u8, usize)> = self.steps[state]
+                .iter()
+                .map(|(&symbol, &next)| (symbol, classes[next]))
+                .collect();
+            let fresh = known.len();
+            classes[state] = *known.entry((self.vowel[state], steps)).or_insert(fresh);
+        }
+        classes
+    }
+}
+
+fn cell(symbol: u8, state: usize) -> u16 {
+    symbol as u16 + 128 * state as u16
+}
+
+/// A section: a u32 count, then the cells.
+pub fn section(cells: &[u16]) -> Vec<u8> {
+    let mut section = (cells.len() as u32).to_le_bytes().to_vec();
+    section.extend(cells.iter().flat_map(|cell| cell.to_le_bytes()));
+    section
+}

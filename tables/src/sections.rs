@@ -1,0 +1,87 @@
+//! The source folder, and the eight section files.
+
+use std::fs;
+use std::io::ErrorKind;
+use std::path::Path;
+
+use crate::fault::Fault;
+use crate::{letters, lexicon, sayable, trees};
+
+/// The sections with their names, and how many things of each kind are in them.
+pub struct Made {
+    pub files: Vec<(&'static str, Vec<u8>)>,
+    pub entries: usize,
+    pub nodes: usize,
+    pub cells: [usize; 2],
+}
+
+/// All sections of a source folder, or all faults of its files.
+pub fn make(source: &Path) -> Result<Made, Vec<Fault>> {
+    let lexicon = source_text(source, lexicon::FILE).and_then(|text| lexicon::read(&text));
+    let letters = source_text(source, letters::FILE).and_then(|text| trees::read(&text));
+    let sayable = source_text(source, sayable::FILE).and_then(|text| sayable::read(&text));
+    match (lexicon, letters, sayable) {
+        (Ok(entries), Ok(trees), Ok(machines)) => Ok(gather(&entries, trees, machines)),
+        (lexicon, letters, sayable) => {
+            let faults = [lexicon.err(), letters.err(), sayable.err()];
+            Err(faults.into_iter().flatten().flatten().collect())
+        }
+    }
+}
+
+fn gather(entries: &[lexicon::Entry], trees: trees::Trees, machines: sayable::Machines) -> Made {
+    let lex = lexicon::sections(entries);
+    Made {
+        entries: entries.len(),
+        nodes: trees.nodes(),
+        cells: [machines.beginnings.len(), machines.endings.len()],
+        files: vec![
+            ("lex.phones", lex.phones),
+            ("lex.index", lex.index),
+            ("lex.data", lex.data),
+            ("lts.phones", trees.phones),
+            ("lts.index", trees.index),
+            ("lts.model", trees.model),
+            ("aswd.p", sayable::section(&machines.beginnings)),
+            ("aswd.s", sayable::section(&machines.endings)),
+        ],
+    }
+}
+
+/// The bytes of a source file.
+pub fn source_text(folder: &Path, file: &'static str) -> Result<Vec<u8>, Vec<Fault>> {
+    let path = folder.join(file);
+    fs::read(&path).map_err(|error| {
+        let sentence = match error.kind() {
+            ErrorKind::NotFound => {
+                "there is no such file; write it (tables/README.md tells how), or name another folder"
+                    .to_string()
+            }
+            _ => format!("cannot be read ({error}); see to it that you may read it"),
+        };
+        vec![whole_file(&path, sentence)]
+    })
+}
+
+/// Writes the sections into a folder, which is made where it is missing.
+pub fn write(made: &Made, folder: &Path) -> Result<(), Fault> {
+    fs::create_dir_all(folder).map_err(|error| unwritable(folder, &error))?;
+    for (name, bytes) in &made.files {
+        let path = folder.join(name);
+        fs::write(&path, bytes).map_err(|error| unwritable(&path, &error))?;
+    }
+    Ok(())
+}
+
+fn unwritable(path: &Path, error: &std::io::Error) -> Fault {
+    let sentence = format!("cannot be written ({error}); name a folder that you may write to");
+    whole_file(path, sentence)
+}
+
+fn whole_file(path: &Path, sentence: String) -> Fault {
+    Fault {
+        file: path.display().to_string(),
+        line: 0,
+        sentence,
+    }
+}
