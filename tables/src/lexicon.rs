@@ -97,14 +97,17 @@ fn phones_of(text: &str) -> Result<Vec<String>, String> {
     Ok(phones.into_iter().map(str::to_string).collect())
 }
 
-/// The sections of sorted entries. lex.phones also has every vowel with 0 and with 1, for `add_entries`.
-pub fn sections(entries: &[Entry]) -> Sections {
-    let mut table: Vec<String> = phones::stressed_vowels().collect();
-    let used = entries.iter().flat_map(|entry| &entry.phones);
-    table.extend(used.cloned());
+/// The phones of entries, and every vowel with 0 and with 1, so that `add_entries` knows them.
+pub fn phones(entries: &[Entry]) -> Vec<String> {
+    let used = entries.iter().flat_map(|entry| &entry.phones).cloned();
+    let mut table: Vec<String> = phones::stressed_vowels().chain(used).collect();
     table.sort();
     table.dedup();
+    table
+}
 
+/// The sections of sorted entries, whose phones are in the table.
+pub fn sections(table: &[String], entries: &[Entry]) -> Sections {
     let mut index = (entries.len() as u32).to_le_bytes().to_vec();
     let mut data = Vec::new();
     for entry in entries {
@@ -113,11 +116,11 @@ pub fn sections(entries: &[Entry]) -> Sections {
         data.extend(entry.word.as_bytes());
         data.push(entry.phones.len() as u8);
         for phone in &entry.phones {
-            let number = table.binary_search(phone);
+            let number = table.iter().position(|known| known == phone);
             data.push(number.expect("each phone is in the table") as u8);
         }
     }
-    let phones = phones::table(&table);
+    let phones = phones::table(table);
     Sections {
         phones,
         index,

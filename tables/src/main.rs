@@ -2,6 +2,7 @@
 
 mod contexts;
 mod fault;
+mod flite;
 mod letters;
 mod lexicon;
 mod lines;
@@ -24,6 +25,8 @@ fn main() -> ExitCode {
     let arguments: Vec<&str> = arguments.iter().map(String::as_str).collect();
     let outcome = match arguments[..] {
         ["make", source, output] => make(Path::new(source), Path::new(output)),
+        ["flite", output] => from_flite(None, Path::new(output)),
+        ["flite", output, libraries] => from_flite(Some(Path::new(libraries)), Path::new(output)),
         ["try", source, ref words @ ..] if !words.is_empty() => say(Path::new(source), words),
         _ => {
             eprintln!(
@@ -52,7 +55,17 @@ fn tell(faults: &[Fault]) {
 
 fn make(source: &Path, output: &Path) -> Result<(), Vec<Fault>> {
     let made = sections::make(source)?;
-    sections::write(&made, output).map_err(|fault| vec![fault])?;
+    write(&made, output).map_err(|fault| vec![fault])
+}
+
+/// Writes the sections of flite's libraries.
+fn from_flite(libraries: Option<&Path>, output: &Path) -> Result<(), Vec<Fault>> {
+    let made = flite::make(libraries).map_err(|fault| vec![fault])?;
+    write(&made, output).map_err(|fault| vec![fault])
+}
+
+fn write(made: &sections::Made, output: &Path) -> Result<(), Fault> {
+    sections::write(made, output)?;
     let [beginnings, endings] = made.cells;
     println!(
         "{}: {} entries, {} nodes, {beginnings} and {endings} cells",

@@ -21,7 +21,10 @@ pub fn make(source: &Path) -> Result<Made, Vec<Fault>> {
     let letters = source_text(source, letters::FILE).and_then(|text| trees::read(&text));
     let sayable = source_text(source, sayable::FILE).and_then(|text| sayable::read(&text));
     match (lexicon, letters, sayable) {
-        (Ok(entries), Ok(trees), Ok(machines)) => Ok(gather(&entries, trees, machines)),
+        (Ok(entries), Ok(trees), Ok(machines)) => {
+            let phones = lexicon::phones(&entries);
+            Ok(gather(&phones, &entries, trees, machines))
+        }
         (lexicon, letters, sayable) => {
             let faults = [lexicon.err(), letters.err(), sayable.err()];
             Err(faults.into_iter().flatten().flatten().collect())
@@ -29,8 +32,14 @@ pub fn make(source: &Path) -> Result<Made, Vec<Fault>> {
     }
 }
 
-fn gather(entries: &[lexicon::Entry], trees: trees::Trees, machines: sayable::Machines) -> Made {
-    let lex = lexicon::sections(entries);
+/// The sections of phones, entries, trees and machines.
+pub fn gather(
+    phones: &[String],
+    entries: &[lexicon::Entry],
+    trees: trees::Trees,
+    machines: sayable::Machines,
+) -> Made {
+    let lex = lexicon::sections(phones, entries);
     Made {
         entries: entries.len(),
         nodes: trees.nodes(),
@@ -78,7 +87,8 @@ fn unwritable(path: &Path, error: &std::io::Error) -> Fault {
     whole_file(path, sentence)
 }
 
-fn whole_file(path: &Path, sentence: String) -> Fault {
+/// A fault of a file as a whole.
+pub fn whole_file(path: &Path, sentence: String) -> Fault {
     Fault {
         file: path.display().to_string(),
         line: 0,
