@@ -52,7 +52,7 @@ impl Names {
                 "{name} stands for nothing; write at least one letter behind \"=\""
             ));
         }
-        self.runs.insert(name.to_string(), runs);
+        self.runs.insert(name.to_string(), merged(runs));
         Ok(())
     }
 
@@ -108,6 +108,15 @@ impl Names {
         let set = runs.iter().fold(0, |set, run| set | run[0]);
         Ok((vec![vec![!set]], behind))
     }
+}
+
+/// The runs, with those of a single set made one.
+fn merged(runs: Vec<Run>) -> Vec<Run> {
+    let (single, mut rest): (Vec<Run>, Vec<Run>) = runs.into_iter().partition(|run| run.len() == 1);
+    if !single.is_empty() {
+        rest.push(vec![single.iter().fold(0, |set, run| set | run[0])]);
+    }
+    rest
 }
 
 /// Each run of a list with each of another behind it.

@@ -93,12 +93,22 @@ impl Nodes {
     /// A question for each byte of a feature that matters; all others go on together.
     fn questions(&mut self, cases: &[Case], feature: usize) -> Option<u16> {
         let otherwise = self.tree(with_byte(cases, feature, UNNAMED))?;
-        let mut number = otherwise;
-        for byte in NAMED.bytes().rev() {
+        let mut asked = Vec::new();
+        for byte in NAMED.bytes() {
             let yes = self.tree(with_byte(cases, feature, byte))?;
             if yes != otherwise {
-                number = self.node((feature as u8, byte, yes, number))?;
+                asked.push((yes, byte));
             }
+        }
+        let count = |number: u16| asked.iter().filter(|(yes, _)| *yes == number).count();
+        let mut order: Vec<(usize, u16, u8)> = asked
+            .iter()
+            .map(|&(yes, byte)| (count(yes), yes, byte))
+            .collect();
+        order.sort();
+        let mut number = otherwise;
+        for (_, yes, byte) in order.into_iter().rev() {
+            number = self.node((feature as u8, byte, yes, number))?;
         }
         Some(number)
     }
