@@ -127,3 +127,82 @@ pub fn sections(table: &[String], entries: &[Entry]) -> Sections {
         data,
     }
 }
+
+#[cfg(test)]
+mod tests {
+    use super::*;
+
+    /// The only fault of a text.
+    fn fault(text: &str) -> String {
+        let faults = read(text.as_bytes()).expect_err("the text is faulty");
+        assert_eq!(faults.len(), 1, "{faults:?}");
+        faults[0].to_string()
+    }
+
+    #[test]
+    fn entries_are_sorted_by_word_and_keep_their_order_within_one() {
+        let text =
+            "lead v : l iy1 d  # default\nLEAD noun more : l eh1 d\n\n\"a\" : ax0\nb nil :\n";
+        let entries = read(text.as_bytes()).expect("the text is right");
+        let keys: Vec<(&str, u8)> = entries.iter().map(|e| (e.word.as_str(), e.tag)).collect();
+        assert_eq!(
+            keys,
+            [("a", b'0'), ("b", b'0'), ("lead", b'v'), ("lead", b'n')]
+        );
+        assert_eq!(entries[2].phones, ["l", "iy1", "d"]);
+        assert!(entries[1].phones.is_empty());
+    }
+
+    #[test]
+    fn an_entry_is_tag_word_and_phone_numbers_behind_their_lengths() {
+        let entries = read(b"go v : g ow1").expect("the text is right");
+        let table = ["g".to_string(), "ow1".to_string()];
+        let made = sections(&table, &entries);
+        assert_eq!(made.index, b"\x01\0\0\0\0\0\0\0");
+        assert_eq!(made.data, b"v\x02go\x02\0\x01");
+    }
+
+    #[test]
+    fn phones_hold_every_vowel_with_both_digits() {
+        let table = phones(&read(b"go : g ow1").expect("the text is right"));
+        assert_eq!(table.len(), 41);
+        assert!(["oy0", "oy1", "g"]
+            .iter()
+            .all(|p| table.contains(&p.to_string())));
+    }
+
+    #[test]
+    fn each_fault_names_its_line_and_a_next_step() {
+        let long = "w".repeat(48);
+        let many = " k".repeat(97);
+        #[rustfmt::skip]
+        let cases = [
+            ("\ngo g ow1".to_string(), "line 2: there is no colon; write WORD TAG : PHONES"),
+            (" : g".to_string(), "line 1: there is no word before the colon; write WORD TAG : PHONES"),
+            (format!("{long} : g"), "line 1: the word has 48 bytes; write at most 47"),
+            (format!("a {long} : g"), "line 1: the tag has 48 bytes; write at most 47"),
+            (format!("a :{many}"), "line 1: the entry has 97 phones; write at most 96"),
+            ("# é\na : k".to_string(), "line 1: has a byte of 128 or more; write plain letters"),
+            ("a : k q".to_string(), "line 1: \"q\" is no phone; write one of the 50"),
+            ("a : ae2".to_string(), "line 1: \"ae2\" is no phone; write one of the 50"),
+            ("a n : k\n\"A\" noun : t".to_string(), "line 2: \"a\" with tag \"n\" stands at line 1 too; keep one"),
+        ];
+        for (text, said) in cases {
+            let told = fault(&text);
+            assert!(told.starts_with(&format!("lexicon.txt, {said}")), "{told}");
+        }
+    }
+
+    #[test]
+    fn all_faults_are_told() {
+        let faults = read(b"a\nb : k\n: t\n").expect_err("the text is faulty");
+        let lines: Vec<usize> = faults.iter().map(|fault| fault.line).collect();
+        assert_eq!(lines, [1, 3]);
+    }
+
+    #[test]
+    fn the_limits_themselves_are_taken() {
+        let text = format!("{} : {}", "w".repeat(47), "k ".repeat(96));
+        assert_eq!(read(text.as_bytes()).expect("the text is right").len(), 1);
+    }
+}

@@ -218,3 +218,105 @@ pub fn section(cells: &[u16]) -> Vec<u8> {
     section.extend(cells.iter().flat_map(|cell| cell.to_le_bytes()));
     section
 }
+
+#[cfg(test)]
+mod tests {
+    use super::*;
+
+    fn fault(text: &str) -> String {
+        let faults = read(text.as_bytes()).err().expect("the text is faulty");
+        assert_eq!(faults.len(), 1, "{}", faults[0]);
+        faults[0].to_string()
+    }
+
+    /// Whether letters lead to a vowel.
+    fn reaches(cells: &[u16], letters: impl Iterator<Item = u8>) -> bool {
+        let mut state = START;
+        for letter in letters {
+            let symbol = symbol(letter);
+            let found = cells[state..]
+                .iter()
+                .take_while(|&&cell| cell != 0)
+                .find(|&&cell| cell % 128 == symbol as u16);
+            match found {
+                Some(_) if symbol == b'V' => return true,
+                Some(cell) => state = (cell / 128) as usize,
+                None => return false,
+            }
+        }
+        false
+    }
+
+    fn is_sayable(text: &str, word: &str) -> bool {
+        let machines = read(text.as_bytes()).unwrap_or_else(|faults| panic!("{}", faults[0]));
+        reaches(&machines.beginnings, word.bytes())
+            && reaches(&machines.endings, word.bytes().rev())
+    }
+
+    #[test]
+    fn words_between_the_clusters_can_be_said() {
+        let text = "begin : st str sm\nend : nd  # as in sand\n";
+        assert!(is_sayable(text, "stand") && is_sayable(text, "strand"));
+        assert!(!is_sayable(text, "srand") && !is_sayable(text, "stans"));
+        assert!(!is_sayable(text, "") && !is_sayable(text, "st"));
+    }
+
+    #[test]
+    fn n_and_m_are_one_letter_and_vowels_stand_alone() {
+        assert!(is_sayable("begin : sm\nend : p", "snap"));
+        assert!(is_sayable("", "aha") && !is_sayable("", "hah"));
+    }
+
+    #[test]
+    fn both_tables_start_at_the_same_state() {
+        let machines = read(b"begin : b\nend : b c d").expect("the text is right");
+        for cells in [&machines.beginnings, &machines.endings] {
+            assert_eq!(cells[0], b'#' as u16 + 128 * START as u16);
+            assert_eq!(cells[1], 0);
+        }
+    }
+
+    #[test]
+    fn a_section_is_a_count_and_cells() {
+        assert_eq!(section(&[1, 258]), b"\x02\0\0\0\x01\0\x02\x01");
+    }
+
+    #[test]
+    fn each_fault_names_its_line_and_a_next_step() {
+        #[rustfmt::skip]
+        let cases = [
+            ("begin b", "there is no colon; write begin : CLUSTERS or end : CLUSTERS"),
+            ("start : b", "neither \"begin\" nor \"end\" stands before the colon; write begin"),
+            ("begin : be", "\"be\" has the vowel e; write only what stands before the first"),
+            ("end : b2", "\"b2\" is no cluster; write letters from a to z and apostrophes"),
+            ("end : B", "\"B\" is no cluster; write letters"),
+            ("end : \u{df}", "has a byte of 128 or more; write plain letters"),
+        ];
+        for (text, said) in cases {
+            let told = fault(text);
+            assert!(
+                told.starts_with(&format!("sayable.txt, line 1: {said}")),
+                "{told}"
+            );
+        }
+    }
+
+    /// Lines of two-letter clusters, each with a set of third letters of its own.
+    #[test]
+    fn a_machine_that_is_too_large_is_told_at_its_line() {
+        let letters: Vec<char> = "bcdfghjklpqrstvwxz".chars().collect();
+        let mut text = String::new();
+        for (i, a) in letters.iter().enumerate() {
+            let thirds = |j: usize| [letters[(i + j) % 18], letters[(i * j + 1) % 18]];
+            let three = |(j, b)| thirds(j).map(|c| format!("{a}{b}{c}")).join(" ");
+            let clusters: Vec<String> = letters.iter().enumerate().map(three).collect();
+            text += &format!("begin : {}\n", clusters.join(" "));
+        }
+        let told = fault(&text);
+        let said = "the machine has a state above 511; write fewer clusters";
+        assert!(
+            told.starts_with("sayable.txt, line ") && told.contains(said),
+            "{told}"
+        );
+    }
+}

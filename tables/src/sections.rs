@@ -95,3 +95,83 @@ pub fn whole_file(path: &Path, sentence: String) -> Fault {
         sentence,
     }
 }
+
+#[cfg(test)]
+mod tests {
+    use super::*;
+    use std::path::PathBuf;
+
+    fn english() -> PathBuf {
+        Path::new(env!("CARGO_MANIFEST_DIR")).join("english")
+    }
+
+    /// A folder of this test run's own.
+    fn scratch(name: &str) -> PathBuf {
+        let folder = std::env::temp_dir().join(format!("tables-{}-{name}", std::process::id()));
+        fs::create_dir_all(&folder).expect("a scratch folder can be made");
+        folder
+    }
+
+    #[test]
+    fn each_missing_file_is_told_with_a_next_step() {
+        let folder = scratch("missing");
+        let faults = make(&folder).err().expect("nothing is there");
+        let told: Vec<String> = faults.iter().map(|fault| fault.to_string()).collect();
+        assert_eq!(told.len(), 3);
+        for (told, file) in told
+            .iter()
+            .zip(["lexicon.txt", "letters.txt", "sayable.txt"])
+        {
+            assert!(
+                told.contains(file) && told.contains("there is no such file; write it"),
+                "{told}"
+            );
+        }
+        fs::remove_dir_all(folder).expect("the scratch folder can go");
+    }
+
+    #[test]
+    fn a_file_that_is_a_folder_cannot_be_read() {
+        let folder = scratch("folder");
+        fs::create_dir_all(folder.join("letters.txt")).expect("a folder can be made");
+        let told = source_text(&folder, letters::FILE).expect_err("it is a folder")[0].to_string();
+        assert!(
+            told.contains("cannot be read (") && told.contains("see to it"),
+            "{told}"
+        );
+        fs::remove_dir_all(folder).expect("the scratch folder can go");
+    }
+
+    #[test]
+    fn a_folder_that_cannot_be_written_is_told() {
+        let folder = scratch("unwritable");
+        let file = folder.join("file");
+        fs::write(&file, "").expect("a file can be written");
+        let made = make(&english()).unwrap_or_else(|faults| panic!("{}", faults[0]));
+        let told = write(&made, &file.join("inside"))
+            .expect_err("a file is no folder")
+            .to_string();
+        assert!(
+            told.contains("cannot be written (") && told.contains("name a folder"),
+            "{told}"
+        );
+        fs::create_dir_all(folder.join("out/lex.data")).expect("a folder can be made");
+        let told = write(&made, &folder.join("out"))
+            .expect_err("a section is a folder")
+            .to_string();
+        assert!(told.contains("lex.data: cannot be written ("), "{told}");
+        fs::remove_dir_all(folder).expect("the scratch folder can go");
+    }
+
+    #[test]
+    fn the_eight_sections_have_their_names() {
+        let made = make(&english()).unwrap_or_else(|faults| panic!("{}", faults[0]));
+        let names: Vec<&str> = made.files.iter().map(|(name, _)| *name).collect();
+        #[rustfmt::skip]
+        let wanted = [
+            "lex.phones", "lex.index", "lex.data", "lts.phones", "lts.index", "lts.model", "aswd.p", "aswd.s",
+        ];
+        assert_eq!(names, wanted);
+        assert_eq!(made.files[4].1.len(), 52);
+    }
+}

@@ -170,3 +170,39 @@ fn cells(array: &[u8]) -> Vec<u16> {
         .map(|pair| u16::from_le_bytes([pair[0], pair[1]]))
         .collect()
 }
+
+#[cfg(test)]
+mod tests {
+    use super::*;
+
+    #[test]
+    fn a_missing_library_is_told_with_its_package() {
+        let told = make(Some(Path::new("/no/such/folder")))
+            .err()
+            .expect("nothing is there");
+        let said =
+            "libflite_cmulex.a: is not in /no/such/folder; install it (apt-get install flite1-dev)";
+        assert!(told.to_string().starts_with(said), "{told}");
+    }
+
+    #[test]
+    fn a_library_without_the_arrays_is_told() {
+        for bytes in [&b""[..], b"!<arch>\n", b"!<arch>\nshort", &[0x7f; 200]] {
+            let library = Library {
+                path: PathBuf::from("some.a"),
+                bytes: bytes.to_vec(),
+            };
+            let told = entries(&library).expect_err("nothing is in it").to_string();
+            assert!(
+                told.starts_with("some.a: has no cmu_lex_data that can be read; install"),
+                "{told}"
+            );
+        }
+    }
+
+    #[test]
+    fn packed_bytes_are_numbers_of_texts_up_to_a_zero() {
+        let table = [&b""[..], b"ab", b"c"];
+        assert_eq!(unpacked(&table, [2, 1, 0, 1].iter()), b"cab");
+    }
+}

@@ -93,7 +93,8 @@ impl<'a> Object<'a> {
             let at = self.number(table.offset + 24 * i, 4);
             at.and_then(|at| self.text(names.offset + at)) == Some(name.as_bytes())
         })?;
-        self.symbol(&table, i).filter(|place| place.section != 0)
+        let inside = |place: &Place| place.section != 0 && place.size <= self.bytes.len();
+        self.symbol(&table, i).filter(inside)
     }
 
     /// The bytes of an array.
@@ -118,7 +119,7 @@ impl<'a> Object<'a> {
                     let to = self.symbol(&symbols, target)?;
                     let start = self.header(to.section)?.offset + to.offset;
                     let text = self.text(start + self.number(at + 16, 8)?)?;
-                    texts[(offset - place.offset) / 8] = text;
+                    *texts.get_mut((offset - place.offset) / 8)? = text;
                 }
             }
         }
