@@ -1,0 +1,87 @@
+//! Makes the eight sections from plain text. `tables/README.md` tells the format.
+
+mod contexts;
+mod fault;
+mod flite;
+mod letters;
+mod lexicon;
+mod lines;
+mod phones;
+mod sayable;
+mod sections;
+mod trees;
+mod walk;
+
+use std::path::Path;
+use std::process::ExitCode;
+
+use fault::Fault;
+
+/// The most faults that are told at once.
+const MOST_TOLD: usize = 20;
+
+fn main() -> ExitCode {
+    let arguments: Vec<String> = std::env::args().skip(1).collect();
+    let arguments: Vec<&str> = arguments.iter().map(String::as_str).collect();
+    let outcome = match arguments[..] {
+        ["make", source, output] => make(Path::new(source), Path::new(output)),
+        ["flite", output] => from_flite(None, Path::new(output)),
+        ["flite", output, libraries] => from_flite(Some(Path::new(libraries)), Path::new(output)),
+        ["try", source, ref words @ ..] if !words.is_empty() => say(Path::new(source), words),
+        _ => {
+            eprintln!(
+                "say tables/make SOURCE_FOLDER OUTPUT_FOLDER, or tables/try SOURCE_FOLDER WORD ..."
+            );
+            return ExitCode::FAILURE;
+        }
+    };
+    match outcome {
+        Ok(()) => ExitCode::SUCCESS,
+        Err(faults) => {
+            tell(&faults);
+            ExitCode::FAILURE
+        }
+    }
+}
+
+fn tell(faults: &[Fault]) {
+    for fault in faults.iter().take(MOST_TOLD) {
+        eprintln!("{fault}");
+    }
+    if faults.len() > MOST_TOLD {
+        eprintln!("and {} more", faults.len() - MOST_TOLD);
+    }
+}
+
+fn make(source: &Path, output: &Path) -> Result<(), Vec<Fault>> {
+    let made = sections::make(source)?;
+    write(&made, output).map_err(|fault| vec![fault])
+}
+
+/// Writes the sections of flite's libraries.
+fn from_flite(libraries: Option<&Path>, output: &Path) -> Result<(), Vec<Fault>> {
+    let made = flite::make(libraries).map_err(|fault| vec![fault])?;
+    write(&made, output).map_err(|fault| vec![fault])
+}
+
+fn write(made: &sections::Made, output: &Path) -> Result<(), Fault> {
+    sections::write(made, output)?;
+    let [beginnings, endings] = made.cells;
+    println!(
+        "{}: {} entries, {} nodes, {beginnings} and {endings} cells",
+        output.display(),
+        made.entries,
+        made.nodes
+    );
+    Ok(())
+}
+
+/// Prints each word with its phones by the letter rules.
+fn say(source: &Path, words: &[&str]) -> Result<(), Vec<Fault>> {
+    let text = sections::source_text(source, letters::FILE)?;
+    let trees = trees::read(&text)?;
+    for word in words {
+        println!("{word}: {}", walk::predict(&trees, word).join(" "));
+    }
+    Ok(())
+}
