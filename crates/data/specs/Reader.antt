@@ -1,18 +1,16 @@
 -- What a reader takes at a position of a section: a byte, a u32, a string.
 -- Assumes nothing.
-use Prim.Native.Nat.{ℕ, _+_, _-_, _≤_, _<_}
+use Prim.Native.Nat.{ℕ, _+_, _≤_, _<_}
 use native.Mathlib.Omega.{arith}
 use mathlib.Core.Path.{_≡_, sym, _∙_}
-use mathlib.Core.Bool.{true, false, _&&_}
+use mathlib.Core.Bool.{true, false}
 use mathlib.Core.List.{List}
 use lib.Dec.{leb, ltb}
-use lib.ListN.{length, getD, take, drop, length-drop}
-use lib.Seq.{drop-drop, getD-drop}
+use lib.ListN.{length, getD}
 use borrow.Author.Tests.{leb-true, leb-false}
 use Rattle.texts.specs.Choice.{if_then_else_, cases}
-use Rattle.texts.specs.Text.{ascii}
 use Rattle.records.specs.Fields.{u32At}
-use Rattle.data.specs.Sections.{goodString, string-inside}
+use Rattle.data.specs.Places.{fits, string-fits}
 use Rattle.data.specs.declared.Number.{Number}
 use Rattle.data.specs.declared.Number.the-variants as number
 use Rattle.data.specs.declared.Text.{Text}
@@ -26,15 +24,9 @@ byteAt s at = if ltb at (length s) then number.Is (getD s at 0) (at + 1) else nu
 unfoldable pub numberAt : List ℕ → ℕ → Number
 numberAt s at = if leb (at + 4) (length s) then number.Is (u32At s at) (at + 4) else number.Broken
 
--- a string
+-- a string, of any bytes
 unfoldable pub stringAt : List ℕ → ℕ → Text
-stringAt s at = if goodString (drop at s) then text.At (at + 1) (at + 1 + getD s at 0) else text.Broken
-
--- a string at a position, by the section itself
-pub good-here : (s : List ℕ) (at : ℕ)
-    → goodString (drop at s) ≡ (ltb (getD s at 0) (length s - at) && leb (getD s at 0) 15 && ascii (take (getD s at 0) (drop (at + 1) s)))
-unfolding goodString
-good-here s at = let z : at + 0 ≡ at = omega arith in rw (getD-drop at s 0 0, z, length-drop, drop-drop 1 at s)
+stringAt s at = if fits s at then text.At (at + 1) (at + 1 + getD s at 0) else text.Broken
 
 -- a u32 was taken
 pub record NumberTaken (s : List ℕ) (at n next : ℕ) : Type 0 where
@@ -44,7 +36,7 @@ pub record NumberTaken (s : List ℕ) (at n next : ℕ) : Type 0 where
 
 -- a string was taken
 pub record StringTaken (s : List ℕ) (at from to : ℕ) : Type 0 where
-  pub good : goodString (drop at s) ≡ true
+  pub fit : fits s at ≡ true
   pub starts : from ≡ at + 1
   pub stands : to ≡ at + (1 + getD s at 0)
   pub inside : to ≤ length s
@@ -68,18 +60,18 @@ module _ (s : List ℕ) (at : ℕ) where
   pub string-taken : {r : Text} {from to : ℕ} → r ≡ stringAt s at → r ≡ text.At from to → StringTaken s at from to
   unfolding stringAt
   string-taken {r} {from} {to} e g =
-      cases (goodString (drop at s))
+      cases (fits s at)
       (λ h.
       let k : text.At (at + 1) (at + 1 + getD s at 0) ≡ text.At from to = rw h at (sym e ∙ g) in
       let a : at + 1 ≡ from = cc in
       let b : at + 1 + getD s at 0 ≡ to = cc in
-      let i = string-inside s at 1 (omega arith) h in
-      record { good = h; starts = sym a; stands = omega arith; inside = omega arith })
+      let i = string-fits s at h .inside in
+      record { fit = h; starts = sym a; stands = omega arith; inside = omega arith })
       (λ h. let k : text.Broken ≡ text.At from to = rw h at (sym e ∙ g) in let z : _≡_ {A = ℕ} 0 1 = cc in absurd (omega arith))
 
-  pub string-broken : {r : Text} → r ≡ stringAt s at → r ≡ text.Broken → goodString (drop at s) ≡ false
+  pub string-broken : {r : Text} → r ≡ stringAt s at → r ≡ text.Broken → fits s at ≡ false
   unfolding stringAt
   string-broken e g =
-      cases (goodString (drop at s))
+      cases (fits s at)
       (λ h. let k : text.At (at + 1) (at + 1 + getD s at 0) ≡ text.Broken = rw h at (sym e ∙ g) in let z : _≡_ {A = ℕ} 0 1 = cc in absurd (omega arith))
       (λ h. h)

@@ -87,26 +87,6 @@ first-string n s h =
     let b = both-true (goodString s) (goodStrings n (drop (1 + getD s 0 0) s)) h in
     (string-front s (b .0), b .1)
 
--- the strings from a byte on: one law for each turn of a loop over them
-module _ (s : List ℕ) (at left : ℕ) (more : 0 < left) where
-  pub strings-stop : goodString (drop at s) ≡ false → goodStrings left (drop at s) ≡ false
-  unfolding goodStrings
-  strings-stop e = let n : left ≡ suc (left - 1) = omega arith in rw (n, e)
-
-  pub strings-turn : goodString (drop at s) ≡ true → goodStrings left (drop at s) ≡ goodStrings (left - 1) (drop (at + (1 + getD s at 0)) s)
-  unfolding goodStrings
-  strings-turn e =
-      let n : left ≡ suc (left - 1) = omega arith in
-      let z : at + 0 ≡ at = omega arith in
-      ap (λ (k : ℕ). goodStrings k (drop at s)) n ∙ rw (e, getD-drop at s 0 0, z, drop-drop)
-
-  pub string-inside : goodString (drop at s) ≡ true → at + (1 + getD s at 0) ≤ length s
-  string-inside e =
-      let z : at + 0 ≡ at = omega arith in
-      let f = string-front (drop at s) e .inside in
-      let g : getD s at 0 < length s - at = rw (getD-drop at s 0 0, z, length-drop) at f in
-      omega arith
-
 -- the string at a place, by those behind the first
 module _ (s : List ℕ) (at m : ℕ) (more : 0 < m) where
   pub string-here : getD (strings m (drop at s)) 0 [] ≡ take (getD s at 0) (drop (at + 1) s)
@@ -146,15 +126,6 @@ module _ (s : List ℕ) (at m : ℕ) (more : 0 < m) where
 pub listed-end : (p s : List ℕ) (m : ℕ) → m ≤ 0 → some (same p) (strings m s) ≡ false
 unfolding strings some
 listed-end p s m h = let e : m ≡ 0 = omega arith in rw e
-
--- the first string of a good list is good
-pub first-good : (s : List ℕ) (m : ℕ) → 0 < m → goodStrings m s ≡ true → goodString s ≡ true
-unfolding goodStrings
-first-good s m h e = let n : m ≡ suc (m - 1) = omega arith in both-true (goodString s) (goodStrings (m - 1) (drop (1 + getD s 0 0) s)) (sym (ap (λ (k : ℕ). goodStrings k s) n) ∙ e) .0
-
-pub strings-end : (s : List ℕ) (left : ℕ) → left ≤ 0 → goodStrings left s ≡ true
-unfolding goodStrings
-strings-end s left h = let e : left ≡ 0 = omega arith in rw e
 
 -- a phone of a table has at most 15 bytes, all below 128
 pub record Phone (p : List ℕ) : Type 0 where

@@ -30,7 +30,7 @@ pub fn count(s: &[u8]) -> usize
     records::u32_at(s, 0) as usize
 }
 
-// lex.phones and lts.phones
+// lex.phones and lts.phones. Their bytes are tested once, from the first string to the end of the last.
 pub fn is_phone_table(s: &[u8]) -> bool
     ensures { λ r. ⌜ r ≡ isPhoneTable (now (s .entry)) ⌝ }
 {
@@ -49,7 +49,7 @@ pub fn is_phone_table(s: &[u8]) -> bool
         at = to;
         left -= 1;
     }
-    true
+    texts::is_ascii(&s[4..at])
 }
 
 // How many phones a table has.

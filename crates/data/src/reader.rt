@@ -32,7 +32,7 @@ fn number_at(s: &[u8], at: usize) -> Number
     Number::Is(records::u32_at(s, at) as usize, at + 4)
 }
 
-// The string at a position.
+// The string at a position, of any bytes.
 fn string_at(s: &[u8], at: usize) -> Text
     ensures { λ r. ⌜ r ≡ stringAt (now (s .entry)) at ⌝ }
 {
@@ -48,11 +48,7 @@ fn string_at(s: &[u8], at: usize) -> Text
     }
     let from = at + 1;
     let to = from + n;
-    if texts::is_ascii(&s[from..to]) {
-        Text::At(from, to)
-    } else {
-        Text::Broken
-    }
+    Text::At(from, to)
 }
 
 // A reader at the start of a section.

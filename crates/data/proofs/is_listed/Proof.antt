@@ -1,4 +1,4 @@
--- `data::is_listed` meets its contract: of the strings passed none is the phone, so those from `at` on, all good, decide. Assumes nothing.
+-- `data::is_listed` meets its contract: of the strings passed none is the phone, so those from `at` on, all of which fit, decide. Assumes nothing.
 use Prim.Native.Nat.{_+_, _-_, _<_}
 use native.Mathlib.Omega.{arith}
 use mathlib.Core.Path.{_≡_, sym, _∙_}
@@ -7,7 +7,8 @@ use lib.ListN.{drop, take, getD}
 use Rattle.texts.specs.Choice.{never}
 use Rattle.texts.specs.Text.{same}
 use Rattle.texts.specs.Lists.{some}
-use Rattle.data.specs.Sections.{goodString, goodStrings, strings, tablePhones, isListed, table-strings, first-good, strings-turn, listed-here, listed-behind, listed-end}
+use Rattle.data.specs.Sections.{strings, tablePhones, isListed, listed-here, listed-behind, listed-end}
+use Rattle.data.specs.Places.{fits, allFit, table-fit, first-fits, fit-turn}
 use Rattle.data.specs.Reader.{StringTaken, string-taken, string-broken}
 use borrow.Author.Needs.{needs}
 use Rattle.data.proofs.is_listed.Statement.{statement}
@@ -15,7 +16,7 @@ use Rattle.data.proofs.is_listed.Tie as tie
 
 abbrev Inv-loop : tie.InvT-loop
 Inv-loop s phone left₀ at₀ left at =
-    (goodStrings left (drop at s) ≡ true) × (isListed s phone ≡ some (same phone) (strings left (drop at s)))
+    (allFit left s at ≡ true) × (isListed s phone ≡ some (same phone) (strings left (drop at s)))
 
 abbrev μ-loop : tie.MeasureT-loop
 μ-loop s phone left₀ at₀ left at = left
@@ -28,7 +29,7 @@ unfolding isListed tablePhones
 loop-holds c =
     let s = c .before .before .before .args .s .now in
     let e = c .table-count .ensures .0 in
-    (rw e (table-strings s (c .before .before .before .pre)), rw e)
+    (rw e (table-fit s (c .before .before .before .pre)), rw e)
 
 string-from-requires : tie.Need-string-from-requires Inv-loop μ-loop
 string-from-requires c κs = search needs
@@ -43,8 +44,8 @@ returns : tie.Need-returns Inv-loop μ-loop
 returns c =
     let l = c .before .before .before .before .loop in
     let s = c .before .before .before .before .before .before .before .before .args .s .now in
-    let g = first-good (drop (l .at) s) (l .left) (omega arith) (l .inv .0) in
-    never (goodString (drop (l .at) s)) g (string-broken s (l .at) (c .before .before .string-from .ensures) (c .enum-told .given .1))
+    let g = first-fits s (l .at) (l .left) (omega arith) (l .inv .0) in
+    never (fits s (l .at)) g (string-broken s (l .at) (c .before .before .string-from .ensures) (c .enum-told .given .1))
 
 -- the string of a turn
 next : (c : tie.After-known-told Inv-loop μ-loop) → StringTaken (c .before .before .before .before .before .before .before .before .before .args .s .now) (c .before .before .before .before .before .loop .at) (c .before .from .given .0 .0) (c .before .from .given .0 .1 .0)
@@ -91,7 +92,7 @@ loop-again c =
     let r = next (c .before .before .before) in
     let k : 0 < l .left = omega arith in
     let n = sym (compared (c .before)) ∙ c .if1 .left in
-    (rw (r .stands) (sym (strings-turn s (l .at) (l .left) k (r .good)) ∙ l .inv .0), rw (r .stands) (l .inv .1 ∙ listed-behind s (l .at) (l .left) k (a .phone .now) n))
+    (rw (r .stands) (sym (fit-turn s (l .at) (l .left) k (r .fit)) ∙ l .inv .0), rw (r .stands) (l .inv .1 ∙ listed-behind s (l .at) (l .left) k (a .phone .now) n))
 
 returns-3 : tie.Need-returns-3 Inv-loop μ-loop
 returns-3 c =

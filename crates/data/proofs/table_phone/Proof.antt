@@ -1,4 +1,4 @@
--- `data::table_phone` meets its contract: of the strings from `at` on, all good, the one sought is `left` further. Assumes nothing.
+-- `data::table_phone` meets its contract: of the strings from `at` on, all of which fit, the one sought is `left` further. Assumes nothing.
 use Prim.Native.Nat.{ℕ, _+_, _-_, _≤_, _<_}
 use native.Mathlib.Omega.{arith}
 use mathlib.Core.Path.{_≡_, sym, ap, _∙_}
@@ -7,7 +7,8 @@ use mathlib.Core.List.{[]}
 use lib.ListN.{drop, getD}
 use Rattle.texts.specs.Choice.{never}
 use Rattle.records.specs.Fields.{u32At}
-use Rattle.data.specs.Sections.{goodString, goodStrings, strings, tablePhones, table-strings, first-good, strings-turn, string-here, string-behind}
+use Rattle.data.specs.Sections.{strings, tablePhones, string-here, string-behind}
+use Rattle.data.specs.Places.{fits, allFit, table-fit, first-fits, fit-turn}
 use Rattle.data.specs.Reader.{StringTaken, string-taken, string-broken}
 use borrow.Author.Needs.{needs}
 use Rattle.data.proofs.table_phone.Statement.{statement}
@@ -16,7 +17,7 @@ use Rattle.data.proofs.table_phone.Tie as tie
 abbrev Inv-loop : tie.InvT-loop
 Inv-loop s n left₀ at₀ left at =
     (left ≤ n)
-    × (goodStrings (u32At s 0 - n + left) (drop at s) ≡ true)
+    × (allFit (u32At s 0 - n + left) s at ≡ true)
     × (getD (tablePhones s) n [] ≡ getD (strings (u32At s 0 - n + left) (drop at s)) left [])
 
 abbrev μ-loop : tie.MeasureT-loop
@@ -27,7 +28,7 @@ unfolding tablePhones
 loop-holds c =
     let s = c .before .args .s .now in
     let e : u32At s 0 - c .before .args .n + c .before .args .n ≡ u32At s 0 = omega arith in
-    (omega arith, rw e (table-strings s (c .before .pre .0)), rw e)
+    (omega arith, rw e (table-fit s (c .before .pre .0)), rw e)
 
 string-from-requires : tie.Need-string-from-requires Inv-loop μ-loop
 string-from-requires c κs = search needs
@@ -43,8 +44,8 @@ returns c =
     let l = c .before .before .before .before .loop in
     let a = c .before .before .before .before .before .before .args in
     let m = u32At (a .s .now) 0 - a .n + l .left in
-    let g = first-good (drop (l .at) (a .s .now)) m (omega arith) (l .inv .1) in
-    never (goodString (drop (l .at) (a .s .now))) g (string-broken (a .s .now) (l .at) (c .before .before .string-from .ensures) (c .enum-told .given .1))
+    let g = first-fits (a .s .now) (l .at) m (omega arith) (l .inv .1) in
+    never (fits (a .s .now) (l .at)) g (string-broken (a .s .now) (l .at) (c .before .before .string-from .ensures) (c .enum-told .given .1))
 
 sub-left : tie.Need-sub-left Inv-loop μ-loop
 sub-left c = omega arith
@@ -62,7 +63,7 @@ loop-again c =
     let k : 0 < m = omega arith in
     let e : u32At s 0 - a .n + (l .left - 1) ≡ m - 1 = omega arith in (
       omega arith,
-      rw (e, r .stands) (sym (strings-turn s (l .at) m k (r .good)) ∙ l .inv .1),
+      rw (e, r .stands) (sym (fit-turn s (l .at) m k (r .fit)) ∙ l .inv .1),
       rw (e, r .stands) (l .inv .2 ∙ string-behind s (l .at) m k (l .left) (omega arith)),
     )
 
@@ -80,8 +81,8 @@ returns-2 c =
     let l = c .before .before .before .before .loop in
     let a = c .before .before .before .before .before .before .args in
     let m = u32At (a .s .now) 0 - a .n + l .left in
-    let g = first-good (drop (l .at) (a .s .now)) m (omega arith) (l .inv .1) in
-    never (goodString (drop (l .at) (a .s .now))) g (string-broken (a .s .now) (l .at) (c .before .before .string-from2 .ensures) (c .enum-told2 .given .1))
+    let g = first-fits (a .s .now) (l .at) m (omega arith) (l .inv .1) in
+    never (fits (a .s .now) (l .at)) g (string-broken (a .s .now) (l .at) (c .before .before .string-from2 .ensures) (c .enum-told2 .given .1))
 
 -- the string sought
 last : (c : tie.After-known-told2 Inv-loop μ-loop) → StringTaken (c .before .before .before .before .before .before .before .args .s .now) (c .before .before .before .before .before .loop .at) (c .before .from .given .0 .0) (c .before .from .given .0 .1 .0)
