@@ -43,6 +43,14 @@ pub fn u16_at(s: &[u8], k: usize) -> u16
     pair(s[k], byte_at(s, k + 1))
 }
 
+// The u16 at k, both bytes of which are inside.
+pub fn u16_in(s: &[u8], k: usize) -> u16
+    requires { ⌜ k + 1 < length (now s) ⌝ }
+    ensures { λ r. ⌜ r ≡ u16At (now (s .entry)) k ⌝ }
+{
+    pair(s[k], s[k + 1])
+}
+
 // Two halves as a number, the low one first.
 fn joined(low: u16, high: u16) -> u32
     ensures { λ r. ⌜ r ≡ low + 65536 * high ⌝ }
@@ -58,6 +66,14 @@ pub fn u32_at(s: &[u8], k: usize) -> u32
         return 0;
     }
     joined(u16_at(s, k), u16_at(s, k + 2))
+}
+
+// The u32 at k, all four bytes of which are inside.
+pub fn u32_in(s: &[u8], k: usize) -> u32
+    requires { ⌜ k + 3 < length (now s) ⌝ }
+    ensures { λ r. ⌜ r ≡ u32At (now (s .entry)) k ⌝ }
+{
+    joined(u16_in(s, k), u16_in(s, k + 2))
 }
 
 // v at k.
