@@ -108,10 +108,27 @@ pub fn largest(s: &[u8]) -> u8
     m
 }
 
-// Whether every byte is below 128.
+// Whether every byte is below 128, one by one.
+fn are_low(s: &[u8]) -> bool
+    ensures { λ r. ⌜ r ≡ ascii (now (s .entry)) ⌝ }
+{
+    let mut i = 0;
+    while i < s.len() {
+        if 128 <= s[i] {
+            return false;
+        }
+        i += 1;
+    }
+    true
+}
+
+// Whether every byte is below 128. A short text is told faster one by one, a long one by its largest byte.
 pub fn is_ascii(s: &[u8]) -> bool
     ensures { λ r. ⌜ r ≡ ascii (now (s .entry)) ⌝ }
 {
+    if s.len() < 8 {
+        return are_low(s);
+    }
     largest(s) < 128
 }
 
