@@ -1,5 +1,4 @@
 -- `texts::is_ascii` meets its contract: every byte is below 128 exactly if the largest is. Assumes nothing.
-use mathlib.Core.Path.{_∙_}
 use Rattle.texts.specs.Largest.{ascii-largest}
 use borrow.Author.Needs.{needs}
 use Rattle.texts.proofs.is_ascii.Statement.{statement}

@@ -2,7 +2,6 @@
 use native.Mathlib.Omega.{arith}
 use mathlib.Core.Path.{sym}
 use Rattle.texts.specs.Largest.{larger-left, larger-right}
-use borrow.Author.Needs.{needs}
 use Rattle.texts.proofs.larger.Statement.{statement}
 use Rattle.texts.proofs.larger.Tie as tie
 

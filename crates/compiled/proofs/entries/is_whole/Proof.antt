@@ -1,6 +1,6 @@
 -- `entries::is_whole` meets its contract: a part that lies outside decides first, then the word's bytes. Assumes nothing.
 use Rattle.compiled.specs.Entries.{whole-short, whole-told, word-cut}
-use lib.ListN.{length, getD}
+use lib.ListN.{getD}
 use mathlib.Core.Path.{_≡_, sym, _∙_}
 use native.Mathlib.Omega.{arith}
 use Prim.Native.Nat.{_+_}
