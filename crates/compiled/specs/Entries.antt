@@ -1,13 +1,14 @@
 -- 01, Lookup: a compiled entry at its lex.data offset is tag, word length, word, phone count, phone numbers.
 -- Assumes nothing.
-use Prim.Native.Nat.{ℕ, _+_, _*_, _≤_, _<_}
+use Prim.Native.Nat.{ℕ, _+_, _-_, _*_, _≤_, _<_}
 use native.Mathlib.Omega.{arith}
 use mathlib.Core.Path.{_≡_}
-use mathlib.Core.Bool.{Bool, true, _&&_}
+use mathlib.Core.Bool.{Bool, true, false, _&&_}
 use mathlib.Core.List.{List, [], map}
 use lib.Dec.{leb, ltb}
 use lib.ListN.{length, getD, take, drop, length-map}
-use borrow.Author.Tests.{ltb-true}
+use borrow.Author.Tests.{ltb-true, leb-true, le-leb, lt-leb}
+use Rattle.texts.specs.Choice.{both-true}
 use Rattle.texts.specs.Lists.{every, every-at, getD-map}
 use Rattle.texts.specs.Text.{ascii}
 use Rattle.records.specs.Fields.{u32At}
@@ -26,6 +27,26 @@ numbersOf s = take (getD s (2 + getD s 1 0) 0) (drop (3 + getD s 1 0) s)
 -- no part lies outside, and its word has no byte of 128 or more; else the entry is damaged
 unfoldable pub isWhole : List ℕ → Bool
 isWhole s = leb (3 + getD s 1 0 + getD s (2 + getD s 1 0) 0) (length s) && ascii (wordOf s)
+
+-- an entry whose parts are not all inside is damaged; else its word decides
+pub whole-short : (s : List ℕ) → length s ≤ 2 + getD s 1 0 + getD s (2 + getD s 1 0) 0 → isWhole s ≡ false
+unfolding isWhole
+whole-short s h = rw (lt-leb (3 + getD s 1 0 + getD s (2 + getD s 1 0) 0) (length s) (omega arith))
+
+pub whole-told : (s : List ℕ) → 2 + getD s 1 0 + getD s (2 + getD s 1 0) 0 < length s → isWhole s ≡ ascii (wordOf s)
+unfolding isWhole
+whole-told s h = rw (le-leb (3 + getD s 1 0 + getD s (2 + getD s 1 0) 0) (length s) (omega arith))
+
+-- the word of a whole entry lies inside, and is cut out by its length
+pub whole-long : (s : List ℕ) → isWhole s ≡ true → 2 + getD s 1 0 < length s
+unfolding isWhole
+whole-long s h =
+    let l = leb-true (3 + getD s 1 0 + getD s (2 + getD s 1 0) 0) (length s) (both-true (leb (3 + getD s 1 0 + getD s (2 + getD s 1 0) 0) (length s)) (ascii (wordOf s)) h .0) in
+    omega arith
+
+pub word-cut : (s : List ℕ) (n : ℕ) → n ≡ getD s 1 0 → take (2 + n - 2) (drop 2 s) ≡ wordOf s
+unfolding wordOf
+word-cut s n e = let k : 2 + n - 2 ≡ getD s 1 0 = omega arith in rw k
 
 -- how many entries there are
 abbrev pub count : List ℕ → ℕ

@@ -39,12 +39,26 @@ pub fn numbers(s: &[u8]) -> &[u8]
 pub fn is_whole(s: &[u8]) -> bool
     ensures { λ r. ⌜ r ≡ isWhole (now (s .entry)) ⌝ }
 {
-    let n = texts::wide(records::byte_at(s, 1));
-    let count = texts::wide(records::byte_at(s, 2 + n));
-    if s.len() < 3 + n + count {
+    if s.len() < 3 {
         return false;
     }
-    texts::is_ascii(word(s))
+    let end = 2 + texts::wide(s[1]);
+    if s.len() <= end {
+        return false;
+    }
+    if s.len() <= end + texts::wide(s[end]) {
+        return false;
+    }
+    texts::is_ascii(&s[2..end])
+}
+
+// The word of an entry that is whole.
+pub fn whole_word(s: &[u8]) -> &[u8]
+    requires { ⌜ isWhole (now s) ≡ true ⌝ }
+    ensures { λ r. ⌜ now r ≡ wordOf (now (s .entry)) ⌝ }
+{
+    let end = 2 + texts::wide(s[1]);
+    &s[2..end]
 }
 
 // Whether every number has a phone.

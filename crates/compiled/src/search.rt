@@ -18,7 +18,7 @@ fn search(index: &[u8], lex_data: &[u8], word: &[u8]) -> Chosen
         if !entries::is_whole(s) {
             return Chosen::Damaged;
         }
-        if texts::smaller(entries::word(s), word) {
+        if texts::smaller(entries::whole_word(s), word) {
             lo = mid + 1;
         } else {
             hi = mid;
@@ -38,7 +38,7 @@ fn tagged(index: &[u8], lex_data: &[u8], word: &[u8], tag: u8, lo: usize) -> Cho
         if !entries::is_whole(s) {
             return Chosen::Damaged;
         }
-        if !texts::same(entries::word(s), word) {
+        if !texts::same(entries::whole_word(s), word) {
             return Chosen::Entry(lo);
         }
         if entries::tag(s) == tag {
@@ -60,7 +60,7 @@ fn from_place(index: &[u8], lex_data: &[u8], word: &[u8], tag: u8, lo: usize) ->
     if !entries::is_whole(s) {
         return Chosen::Damaged;
     }
-    if !texts::same(entries::word(s), word) {
+    if !texts::same(entries::whole_word(s), word) {
         return Chosen::Missing;
     }
     tagged(index, lex_data, word, tag, lo)

@@ -44,7 +44,7 @@ fn step(table: &[u8], state: u16, symbol: u8) -> Stepped
     let n = (table.len() - 4) / 2;
     let mut i = state as usize;
     while i < n {
-        let cell = records::u16_at(table, 4 + 2 * i);
+        let cell = records::u16_in(table, 4 + 2 * i);
         if cell == 0 {
             return Stepped::Fails;
         }

@@ -1,6 +1,6 @@
 -- 01, Letter trees: the phones of a word, by the trees of its letters.
 -- Assumes nothing.
-use Prim.Native.Nat.{ℕ, zero, suc, _+_, _-_, _*_, _/_, _≤_, _<_}
+use Prim.Native.Nat.{ℕ, zero, suc, _+_, _-_, _*_, _/_, _%_, _≤_, _<_}
 use mathlib.Core.Path.{_≡_}
 use mathlib.Core.Bool.{Bool, true, false, _&&_}
 use mathlib.Core.List.{List, [], _∷_, _++_, map}
@@ -8,7 +8,7 @@ use mathlib.Core.Option.{Option, none, some}
 use lib.Dec.{eqb, leb, ltb}
 use lib.ListN.{length, getD, take, drop}
 use native.Mathlib.Omega.{arith}
-use borrow.Author.Tests.{lt-ltb, le-ltb, le-leb, lt-leb}
+use borrow.Author.Tests.{lt-ltb, le-ltb, le-leb, lt-leb, eqb-true}
 use Rattle.texts.specs.Choice.{if_then_else_, both-true}
 use Rattle.texts.specs.Lists.{place}
 use Rattle.texts.specs.Text.{bytes, folded, same, is}
@@ -115,3 +115,9 @@ pub trees-table : (phones index model : List ℕ) → isTrees phones index model
 unfolding isTrees
 trees-table phones index model h =
     both-true (isPhoneTable phones) (isLtsIndex index) (both-true (isPhoneTable phones && isLtsIndex index) (isLtsModel model) h .0) .0
+
+-- and lts.model has whole nodes
+pub trees-model : (phones index model : List ℕ) → isTrees phones index model ≡ true → length model % 6 ≡ 0
+unfolding isTrees isLtsModel
+trees-model phones index model h =
+    eqb-true (length model % 6) 0 (both-true (leb (length model) 393216) (eqb (length model % 6) 0) (both-true (isPhoneTable phones && isLtsIndex index) (isLtsModel model) h .1) .1)

@@ -52,6 +52,11 @@ pub u16-past : (b : List ℕ) (k : ℕ) → length b ≤ k → u16At b k ≡ 0
 unfolding u16At
 u16-past b k h = let g : length b ≤ k + 1 = omega arith in omega (arith, List·getD-eq-default b 0 h, List·getD-eq-default b 0 g)
 
+-- and where only the low byte is inside
+pub u16-last : (b : List ℕ) (k : ℕ) → length b ≤ k + 1 → u16At b k ≡ getD b k 0
+unfolding u16At
+u16-last b k h = omega (arith, List·getD-eq-default b 0 h)
+
 pub u32-past : (b : List ℕ) (k : ℕ) → length b ≤ k → u32At b k ≡ 0
 unfolding u32At
 u32-past b k h = omega (arith, u16-past b k h, u16-past b (k + 2) (omega arith))

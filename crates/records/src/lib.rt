@@ -33,6 +33,14 @@ fn pair(low: u8, high: u8) -> u16
     (low as u16) + 256 * (high as u16)
 }
 
+// The u16 at k, both bytes of which are inside: one load.
+pub fn u16_in(s: &[u8], k: usize) -> u16
+    requires { ⌜ k + 1 < length (now s) ⌝ }
+    ensures { λ r. ⌜ r ≡ u16At (now (s .entry)) k ⌝ }
+{
+    pair(s[k], s[k + 1])
+}
+
 // The u16 at k.
 pub fn u16_at(s: &[u8], k: usize) -> u16
     ensures { λ r. ⌜ r ≡ u16At (now (s .entry)) k ⌝ }
@@ -40,7 +48,10 @@ pub fn u16_at(s: &[u8], k: usize) -> u16
     if s.len() <= k {
         return 0;
     }
-    pair(s[k], byte_at(s, k + 1))
+    if k + 1 < s.len() {
+        return u16_in(s, k);
+    }
+    pair(s[k], 0)
 }
 
 // Two halves as a number, the low one first.
@@ -50,12 +61,23 @@ fn joined(low: u16, high: u16) -> u32
     (low as u32) + 65536 * (high as u32)
 }
 
+// The u32 at k, all four bytes of which are inside: one load.
+pub fn u32_in(s: &[u8], k: usize) -> u32
+    requires { ⌜ k + 3 < length (now s) ⌝ }
+    ensures { λ r. ⌜ r ≡ u32At (now (s .entry)) k ⌝ }
+{
+    joined(u16_in(s, k), u16_in(s, k + 2))
+}
+
 // The u32 at k.
 pub fn u32_at(s: &[u8], k: usize) -> u32
     ensures { λ r. ⌜ r ≡ u32At (now (s .entry)) k ⌝ }
 {
     if s.len() <= k {
         return 0;
+    }
+    if k + 3 < s.len() {
+        return u32_in(s, k);
     }
     joined(u16_at(s, k), u16_at(s, k + 2))
 }

@@ -4,6 +4,7 @@ ghost use mathlib.Core.Bool.{_&&_};
 ghost use Prim.Native.Nat.{_<_};
 ghost use Rattle.texts.specs.Lists.{place};
 ghost use Rattle.texts.specs.Text.{folded, blank, is, same as equal, smaller as before, ascii, isWord, agree as agreeOf};
+ghost use Rattle.texts.specs.Largest.{larger as largerOf, largest as largestOf};
 
 // A byte as a size.
 pub fn wide(b: u8) -> usize
@@ -87,8 +88,28 @@ pub fn find(s: &[u8], b: u8) -> usize
     i
 }
 
-// Whether every byte is below 128.
-pub fn is_ascii(s: &[u8]) -> bool
+// The larger of two bytes.
+fn larger(a: u8, b: u8) -> u8
+    ensures { λ r. ⌜ r ≡ largerOf a b ⌝ }
+{
+    if a < b { b } else { a }
+}
+
+// The largest byte, 0 of none. Without an early return the loop reads many bytes at once.
+pub fn largest(s: &[u8]) -> u8
+    ensures { λ r. ⌜ r ≡ largestOf (now (s .entry)) ⌝ }
+{
+    let mut m = 0u8;
+    let mut i = 0;
+    while i < s.len() {
+        m = larger(m, s[i]);
+        i += 1;
+    }
+    m
+}
+
+// Whether every byte is below 128, one by one.
+fn are_low(s: &[u8]) -> bool
     ensures { λ r. ⌜ r ≡ ascii (now (s .entry)) ⌝ }
 {
     let mut i = 0;
@@ -99,6 +120,16 @@ pub fn is_ascii(s: &[u8]) -> bool
         i += 1;
     }
     true
+}
+
+// Whether every byte is below 128. A short text is told faster one by one, a long one by its largest byte.
+pub fn is_ascii(s: &[u8]) -> bool
+    ensures { λ r. ⌜ r ≡ ascii (now (s .entry)) ⌝ }
+{
+    if s.len() < 8 {
+        return are_low(s);
+    }
+    largest(s) < 128
 }
 
 // Whether s may be a word or a tag.

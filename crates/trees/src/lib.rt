@@ -1,6 +1,6 @@
 // The letter trees' nodes and the walk from a letter's start to a leaf (01, Letter trees).
 ghost use mathlib.Core.Path.{_≡_};
-ghost use Prim.Native.Nat.{_*_, _/_};
+ghost use Prim.Native.Nat.{_*_, _/_, _%_};
 ghost use lib.ListN.{length};
 ghost use Rattle.trees.specs.Walk.{nodeAt, walk as walkFrom};
 
@@ -23,7 +23,7 @@ pub enum Walked {
 
 // Node n of a model, given the eight features of a letter.
 fn read_node(model: &[u8], features: &[u8], n: u16) -> Node
-    requires { ⌜ length (now features) ≡ 8 ⌝ }
+    requires { ⌜ (length (now features) ≡ 8) × (length (now model) % 6 ≡ 0) ⌝ }
     ensures { λ r. ⌜ r ≡ nodeAt (now (model .entry)) (now (features .entry)) n ⌝ }
 {
     let at = 6 * (n as usize);
@@ -31,23 +31,23 @@ fn read_node(model: &[u8], features: &[u8], n: u16) -> Node
         return Node::Outside;
     }
     let first = model[at];
-    let value = records::byte_at(model, at + 1);
+    let value = model[at + 1];
     match first {
         255 => Node::Leaf(value),
         0..=7 => {
             if features[texts::wide(first)] == value {
-                Node::Next(records::u16_at(model, at + 2))
+                Node::Next(records::u16_in(model, at + 2))
             } else {
-                Node::Next(records::u16_at(model, at + 4))
+                Node::Next(records::u16_in(model, at + 4))
             }
         }
-        8..=254 => Node::Next(records::u16_at(model, at + 4)),
+        8..=254 => Node::Next(records::u16_in(model, at + 4)),
     }
 }
 
 // The walk from a start, over at most as many nodes as the model has; `phones` is how many phones there are.
 pub fn walk(model: &[u8], features: &[u8], start: u16, phones: usize) -> Walked
-    requires { ⌜ length (now features) ≡ 8 ⌝ }
+    requires { ⌜ (length (now features) ≡ 8) × (length (now model) % 6 ≡ 0) ⌝ }
     ensures { λ r. ⌜ r ≡ walkFrom (now (model .entry)) (now (features .entry)) phones (length (now (model .entry)) / 6) start ⌝ }
 {
     let mut left = model.len() / 6;

@@ -1,4 +1,4 @@
--- `language::step` meets its contract: no cell passed has the symbol, so the cells left decide. Assumes nothing.
+-- `language::step` meets its contract: no cell passed has the symbol, so the cells left decide; a cell's place gives both its bytes. Assumes nothing.
 use Prim.Native.Nat.{ℕ}
 use Rattle.language.specs.declared.Stepped.the-variants.{To}
 use Prim.Native.Nat.{_+_, _-_, _*_, _/_, _%_, _≤_, _<_}
@@ -23,28 +23,28 @@ loop-holds : tie.Need-loop-holds Inv-loop μ-loop
 unfolding step
 loop-holds c = (refl, refl)
 
-mul-u16-at : tie.Need-mul-u16-at Inv-loop μ-loop
-mul-u16-at c = search needs
+mul-u16-in : tie.Need-mul-u16-in Inv-loop μ-loop
+mul-u16-in c = search needs
 
-add-u16-at : tie.Need-add-u16-at Inv-loop μ-loop
-add-u16-at c = search needs
+add-u16-in : tie.Need-add-u16-in Inv-loop μ-loop
+add-u16-in c = search needs
 
-u16-at-requires : tie.Need-u16-at-requires Inv-loop μ-loop
-u16-at-requires c κs = search needs
+u16-in-requires : tie.Need-u16-in-requires Inv-loop μ-loop
+u16-in-requires c κs = omega arith
 
 returns : tie.Need-returns Inv-loop μ-loop
 returns c =
     let l = c .before .before .before .loop in
     let t = c .before .before .before .before .before .args .table .now in
     let h : l .i < length (cells t) = rw length-cells (omega arith) in
-    sym (l .inv .1 ∙ scan-zero t (l .i) (c .before .before .before .before .before .args .symbol) h (sym (c .before .u16-at .ensures) ∙ c .if1 .taken))
+    sym (l .inv .1 ∙ scan-zero t (l .i) (c .before .before .before .before .before .args .symbol) h (sym (c .before .u16-in .ensures) ∙ c .if1 .taken))
 
 returns-2 : tie.Need-returns-2 Inv-loop μ-loop
 returns-2 c =
     let l = c .before .before .before .before .loop in
     let t = c .before .before .before .before .before .before .args .table .now in
     let h : l .i < length (cells t) = rw length-cells (omega arith) in
-    let v = c .before .before .u16-at .ensures in
+    let v = c .before .before .u16-in .ensures in
     sym (l .inv .1
     ∙ scan-found t (l .i) (c .before .before .before .before .before .before .args .symbol) h (λ z. c .before .if1 .left (v ∙ z)) (ap (λ (x : ℕ). x % 128) (sym v) ∙ c .if2 .taken)
     ∙ ap (λ (x : ℕ). To (x / 128)) (sym v))
@@ -60,7 +60,7 @@ loop-again c =
     let l = c .before .before .before .before .loop in
     let t = c .before .before .before .before .before .before .args .table .now in
     let h : l .i < length (cells t) = rw length-cells (omega arith) in
-    let v = c .before .before .u16-at .ensures in
+    let v = c .before .before .u16-in .ensures in
     (refl, l .inv .1 ∙ scan-turn t (l .i) (c .before .before .before .before .before .before .args .symbol) h (λ z. c .before .if1 .left (v ∙ z)) (λ z. c .if2 .left (ap (λ (x : ℕ). x % 128) v ∙ z)))
 
 returns-3 : tie.Need-returns-3 Inv-loop μ-loop
@@ -78,9 +78,9 @@ step-spec =
     μ-loop
     sub-n
     loop-holds
-    mul-u16-at
-    add-u16-at
-    u16-at-requires
+    mul-u16-in
+    add-u16-in
+    u16-in-requires
     returns
     returns-2
     add-i

@@ -11,7 +11,7 @@ use Rattle.records.specs.Fields.{u16At, u32At}
 use Rattle.data.specs.Sections.{isPhoneTable, isLtsIndex, isLtsModel, table-fits}
 use Rattle.trees.specs.Walk.{walk, walk-leaf}
 use Rattle.trees.specs.declared.Walked.the-variants.{Phone, Damaged}
-use Rattle.lts.specs.Letters.{isTrees, window, letter, Puts, letter-left, letter-right, letter-walked, trees-table}
+use Rattle.lts.specs.Letters.{isTrees, window, letter, Puts, letter-left, letter-right, letter-walked, trees-table, trees-model}
 use Rattle.lts.proofs.Put.{puts-none}
 use borrow.Author.Needs.{needs}
 use Rattle.lts.proofs.put_letter.Statement.{statement}
@@ -41,7 +41,9 @@ table-count-requires c κs =
     trees-table (a .args .phones .now) (a .args .index .now) (a .args .model .now) (a .pre .0)
 
 walk-requires : tie.Need-walk-requires
-walk-requires c κs = search needs
+walk-requires c κs =
+    let a = c .before .before .before .before .before .before .before .before .before .before .before .before .before .args in
+    (search needs, trees-model (a .phones .now) (a .index .now) (a .model .now) (c .before .before .before .before .before .before .before .before .before .before .before .before .before .pre .0))
 
 enum-known-p : tie.Need-enum-known-p
 enum-known-p c = search needs

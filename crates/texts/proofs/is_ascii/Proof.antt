@@ -1,63 +1,20 @@
--- `texts::is_ascii` meets its contract: the bytes passed are below 128, so the bytes left decide. Assumes nothing.
-use Prim.Native.Nat.{_≤_, _-_}
-use native.Mathlib.Omega.{arith}
-use mathlib.Core.Path.{_≡_, refl, sym, _∙_}
-use lib.ListN.{length, drop, getD}
-use borrow.Author.Tests.{lt-ltb, le-ltb}
-use Rattle.texts.specs.Lists.{every, every-turn, every-stop, every-end}
-use Rattle.texts.specs.Text.{ascii, low}
+-- `texts::is_ascii` meets its contract: every byte is below 128 exactly if the largest is. Assumes nothing.
+use Rattle.texts.specs.Largest.{ascii-largest}
 use borrow.Author.Needs.{needs}
 use Rattle.texts.proofs.is_ascii.Statement.{statement}
 use Rattle.texts.proofs.is_ascii.Tie as tie
 
-abbrev Inv-loop : tie.InvT-loop
-Inv-loop s i₀ i = (i ≤ length s) × (ascii s ≡ every low (drop i s))
+are-low-requires : tie.Need-are-low-requires
+are-low-requires c κs = search needs
 
-abbrev μ-loop : tie.MeasureT-loop
-μ-loop s i₀ i = length s - i
+returns : tie.Need-returns
+returns c = c .are-low .ensures
 
-loop-holds : tie.Need-loop-holds Inv-loop μ-loop
-unfolding ascii
-loop-holds c = (omega arith, refl)
+largest-requires : tie.Need-largest-requires
+largest-requires c κs = search needs
 
-shared-slice-read-if1 : tie.Need-shared-slice-read-if1 Inv-loop μ-loop
-shared-slice-read-if1 c = search needs
-
-returns : tie.Need-returns Inv-loop μ-loop
-unfolding low
-returns c =
-    let l = c .before .before .before .loop in
-    let s = c .before .before .before .before .args .s .now in
-    sym (l .inv .1 ∙ every-stop low s (l .i) 0 (omega arith) (le-ltb (getD s (l .i) 0) 128 (omega arith)))
-
-add-i : tie.Need-add-i Inv-loop μ-loop
-add-i c = search needs
-
-loop-less : tie.Need-loop-less Inv-loop μ-loop
-loop-less c = search needs
-
-loop-again : tie.Need-loop-again Inv-loop μ-loop
-unfolding low
-loop-again c =
-    let l = c .before .before .before .loop in
-    let s = c .before .before .before .before .args .s .now in
-    (omega arith, l .inv .1 ∙ every-turn low s (l .i) 0 (omega arith) (lt-ltb (getD s (l .i) 0) 128 (omega arith)))
-
-returns-2 : tie.Need-returns-2 Inv-loop μ-loop
-returns-2 c =
-    let l = c .before .loop in
-    sym (l .inv .1 ∙ every-end low (c .before .before .args .s .now) (l .i) (omega arith))
+returns-2 : tie.Need-returns-2
+returns-2 c = rw (ascii-largest (c .before .before .before .args .s .now), c .largest .ensures)
 
 pub is-ascii-spec : {M : Type 1} → statement M
-is-ascii-spec =
-    tie.close
-    (tie.spec
-    Inv-loop
-    μ-loop
-    loop-holds
-    shared-slice-read-if1
-    returns
-    add-i
-    loop-less
-    loop-again
-    returns-2)
+is-ascii-spec = tie.close (tie.spec are-low-requires returns largest-requires returns-2)

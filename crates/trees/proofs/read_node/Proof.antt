@@ -1,4 +1,4 @@
--- `trees::read_node` meets its contract: the match's arms are the definition's tests on the first byte. Assumes nothing.
+-- `trees::read_node` meets its contract: the match's arms are the definition's tests on the first byte; a node that begins inside lies inside. Assumes nothing.
 use Prim.Native.Nat.{_+_, _*_}
 use native.Mathlib.Omega.{arith}
 use mathlib.Core.Path.{_≡_, sym}
@@ -21,11 +21,11 @@ returns c =
 shared-slice-read-first : tie.Need-shared-slice-read-first
 shared-slice-read-first c = search needs
 
-add-byte-at : tie.Need-add-byte-at
-add-byte-at c = search needs
+add-value : tie.Need-add-value
+add-value c = search needs
 
-byte-at-requires : tie.Need-byte-at-requires
-byte-at-requires c κs = search needs
+shared-slice-read-value : tie.Need-shared-slice-read-value
+shared-slice-read-value c = omega arith
 
 wide-requires : tie.Need-wide-requires
 wide-requires c κs = search needs
@@ -33,30 +33,30 @@ wide-requires c κs = search needs
 shared-slice-read-if3 : tie.Need-shared-slice-read-if3
 shared-slice-read-if3 c = search needs
 
-add-u16-at : tie.Need-add-u16-at
-add-u16-at c = search needs
+add-u16-in : tie.Need-add-u16-in
+add-u16-in c = search needs
 
-u16-at-requires : tie.Need-u16-at-requires
-u16-at-requires c κs = search needs
+u16-in-requires : tie.Need-u16-in-requires
+u16-in-requires c κs = omega arith
 
-add-u16-at-2 : tie.Need-add-u16-at-2
-add-u16-at-2 c = search needs
+add-u16-in-2 : tie.Need-add-u16-in-2
+add-u16-in-2 c = search needs
 
-u16-at-requires-2 : tie.Need-u16-at-requires-2
-u16-at-requires-2 c κs = search needs
+u16-in-requires-2 : tie.Need-u16-in-requires-2
+u16-in-requires-2 c κs = omega arith
 
-add-u16-at-3 : tie.Need-add-u16-at-3
-add-u16-at-3 c = search needs
+add-u16-in-3 : tie.Need-add-u16-in-3
+add-u16-in-3 c = search needs
 
-u16-at-requires-3 : tie.Need-u16-at-requires-3
-u16-at-requires-3 c κs = search needs
+u16-in-requires-3 : tie.Need-u16-in-requires-3
+u16-in-requires-3 c κs = omega arith
 
 returns-2 : tie.Need-returns-2
 unfolding nodeAt
 returns-2 c =
     let m = c .before .before .before .before .before .before .args .model .now in
     let at = 6 * c .before .before .before .before .before .before .args .n in
-    rw (lt-leb (length m) at (c .before .before .before .if1 .left), eq-eqb (getD m at 0) 255 (c .match .keys1), ← c .before .byte-at .ensures)
+    rw (lt-leb (length m) at (c .before .before .before .if1 .left), eq-eqb (getD m at 0) 255 (c .match .keys1))
 
 returns-3 : tie.Need-returns-3
 unfolding nodeAt
@@ -68,9 +68,8 @@ returns-3 c =
       lt-leb (length m) at (c .before .before .before .before .before .before .before .before .if1 .left),
       ne-eqb b 255 (c .before .before .before .before .before .match .rest .1),
       le-leb b 7 (omega (arith, c .before .before .before .before .if2 .taken)),
-      ← c .before .before .before .before .before .before .byte-at .ensures,
-      eq-eqb (getD (c .before .before .before .before .before .before .before .before .before .before .before .args .features .now) b 0) (c .before .before .before .before .before .before .byte-at .result) (rw (c .before .before .before .wide .ensures .0) at (c .before .if3 .taken)),
-      ← c .u16-at .ensures,
+      eq-eqb (getD (c .before .before .before .before .before .before .before .before .before .before .before .args .features .now) b 0) (getD m (at + 1) 0) (rw (c .before .before .before .wide .ensures .0) at (c .before .if3 .taken)),
+      ← c .u16-in .ensures,
     )
 
 returns-4 : tie.Need-returns-4
@@ -83,9 +82,8 @@ returns-4 c =
       lt-leb (length m) at (c .before .before .before .before .before .before .before .before .if1 .left),
       ne-eqb b 255 (c .before .before .before .before .before .match .rest .1),
       le-leb b 7 (omega (arith, c .before .before .before .before .if2 .taken)),
-      ← c .before .before .before .before .before .before .byte-at .ensures,
-      ne-eqb (getD (c .before .before .before .before .before .before .before .before .before .before .before .args .features .now) b 0) (c .before .before .before .before .before .before .byte-at .result) (rw (c .before .before .before .wide .ensures .0) at (c .before .if3 .left)),
-      ← c .u16-at2 .ensures,
+      ne-eqb (getD (c .before .before .before .before .before .before .before .before .before .before .before .args .features .now) b 0) (getD m (at + 1) 0) (rw (c .before .before .before .wide .ensures .0) at (c .before .if3 .left)),
+      ← c .u16-in2 .ensures,
     )
 
 returns-5 : tie.Need-returns-5
@@ -94,7 +92,7 @@ returns-5 c =
     let m = c .before .before .before .before .before .before .before .before .args .model .now in
     let at = 6 * c .before .before .before .before .before .before .before .before .args .n in
     let b = getD m at 0 in
-    rw (lt-leb (length m) at (c .before .before .before .before .before .if1 .left), ne-eqb b 255 (c .before .before .match .rest .1), lt-leb b 7 (c .before .if2 .left), ← c .u16-at3 .ensures)
+    rw (lt-leb (length m) at (c .before .before .before .before .before .if1 .left), ne-eqb b 255 (c .before .before .match .rest .1), lt-leb b 7 (c .before .if2 .left), ← c .u16-in3 .ensures)
 
 pub read-node-spec : {M : Type 1} → statement M
 read-node-spec =
@@ -103,16 +101,16 @@ read-node-spec =
     mul-at
     returns
     shared-slice-read-first
-    add-byte-at
-    byte-at-requires
+    add-value
+    shared-slice-read-value
     wide-requires
     shared-slice-read-if3
-    add-u16-at
-    u16-at-requires
-    add-u16-at-2
-    u16-at-requires-2
-    add-u16-at-3
-    u16-at-requires-3
+    add-u16-in
+    u16-in-requires
+    add-u16-in-2
+    u16-in-requires-2
+    add-u16-in-3
+    u16-in-requires-3
     returns-2
     returns-3
     returns-4

@@ -30,8 +30,8 @@ returns-2 c =
       sym (c .before .is-whole .ensures) ∙ not-true (c .before .is-whole .result) (c .if2 .taken),
     )
 
-word-requires : tie.Need-word-requires
-word-requires c κs = search needs
+whole-word-requires : tie.Need-whole-word-requires
+whole-word-requires c κs = sym (c .before .is-whole .ensures) ∙ not-false (c .before .is-whole .result) (c .if2 .left)
 
 same-requires : tie.Need-same-requires
 same-requires c κs = search needs
@@ -43,7 +43,7 @@ returns-3 c =
       lt-ltb (c .before .before .before .before .before .before .before .before .before .before .before .args .lo) (count (c .before .before .before .before .before .before .before .before .before .before .before .args .index .now)) (omega (arith, c .before .before .before .before .before .before .before .count .ensures .0)),
       ← c .before .before .before .before .before .entry .ensures,
       sym (c .before .before .before .before .is-whole .ensures) ∙ not-false (c .before .before .before .before .is-whole .result) (c .before .before .before .if2 .left),
-      ← c .before .before .word .ensures,
+      ← c .before .before .whole-word .ensures,
       sym (c .before .same .ensures) ∙ not-true (c .before .same .result) (c .if3 .taken),
     )
 
@@ -57,7 +57,7 @@ returns-4 c =
       lt-ltb (c .before .before .before .before .before .before .before .before .before .before .before .before .args .lo) (count (c .before .before .before .before .before .before .before .before .before .before .before .before .args .index .now)) (omega (arith, c .before .before .before .before .before .before .before .before .count .ensures .0)),
       ← c .before .before .before .before .before .before .entry .ensures,
       sym (c .before .before .before .before .before .is-whole .ensures) ∙ not-false (c .before .before .before .before .before .is-whole .result) (c .before .before .before .before .if2 .left),
-      ← c .before .before .before .word .ensures,
+      ← c .before .before .before .whole-word .ensures,
       sym (c .before .before .same .ensures) ∙ not-false (c .before .before .same .result) (c .before .if3 .left),
     ) (c .tagged .ensures)
 
@@ -70,7 +70,7 @@ from-place-spec =
     entry-requires
     is-whole-requires
     returns-2
-    word-requires
+    whole-word-requires
     same-requires
     returns-3
     tagged-requires

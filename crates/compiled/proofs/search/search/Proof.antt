@@ -39,8 +39,8 @@ returns c =
     let w : isWhole (entryAt (a .index .now) (a .lex-data .now) ((l .lo + l .hi) / 2)) ≡ false = rw (← c .before .before .entry .ensures) (sym (c .before .is-whole .ensures) ∙ not-true (c .before .is-whole .result) (c .if1 .taken)) in
     rw (← c .before .before .before .before .before .count .ensures .0) (sym (l .inv .2 ∙ search-damaged (a .index .now) (a .lex-data .now) (a .word .now) (l .lo) (l .hi) (omega arith) w))
 
-word-requires : tie.Need-word-requires Inv-loop μ-loop
-word-requires c κs = search needs
+whole-word-requires : tie.Need-whole-word-requires Inv-loop μ-loop
+whole-word-requires c κs = sym (c .before .is-whole .ensures) ∙ not-false (c .before .is-whole .result) (c .if1 .left)
 
 smaller-requires : tie.Need-smaller-requires Inv-loop μ-loop
 smaller-requires c κs = search needs
@@ -56,7 +56,7 @@ loop-again c =
     let a = c .before .before .before .before .before .before .before .before .before .before .before .before .args in
     let l = c .before .before .before .before .before .before .before .loop in
     let w : isWhole (entryAt (a .index .now) (a .lex-data .now) ((l .lo + l .hi) / 2)) ≡ true = rw (← c .before .before .before .before .before .entry .ensures) (sym (c .before .before .before .before .is-whole .ensures) ∙ not-false (c .before .before .before .before .is-whole .result) (c .before .before .before .if1 .left)) in
-    let s : smaller (wordOf (entryAt (a .index .now) (a .lex-data .now) ((l .lo + l .hi) / 2))) (a .word .now) ≡ true = rw (← c .before .before .before .before .before .entry .ensures, ← c .before .before .word .ensures) (sym (c .before .smaller .ensures) ∙ c .if2 .taken) in
+    let s : smaller (wordOf (entryAt (a .index .now) (a .lex-data .now) ((l .lo + l .hi) / 2))) (a .word .now) ≡ true = rw (← c .before .before .before .before .before .entry .ensures, ← c .before .before .whole-word .ensures) (sym (c .before .smaller .ensures) ∙ c .if2 .taken) in
     (omega arith, omega arith, l .inv .2 ∙ search-up (a .index .now) (a .lex-data .now) (a .word .now) (l .lo) (l .hi) (omega arith) w s)
 
 loop-less-2 : tie.Need-loop-less-2 Inv-loop μ-loop
@@ -67,7 +67,7 @@ loop-again-2 c =
     let a = c .before .before .before .before .before .before .before .before .before .before .before .before .args in
     let l = c .before .before .before .before .before .before .before .loop in
     let w : isWhole (entryAt (a .index .now) (a .lex-data .now) ((l .lo + l .hi) / 2)) ≡ true = rw (← c .before .before .before .before .before .entry .ensures) (sym (c .before .before .before .before .is-whole .ensures) ∙ not-false (c .before .before .before .before .is-whole .result) (c .before .before .before .if1 .left)) in
-    let s : smaller (wordOf (entryAt (a .index .now) (a .lex-data .now) ((l .lo + l .hi) / 2))) (a .word .now) ≡ false = rw (← c .before .before .before .before .before .entry .ensures, ← c .before .before .word .ensures) (sym (c .before .smaller .ensures) ∙ c .if2 .left) in
+    let s : smaller (wordOf (entryAt (a .index .now) (a .lex-data .now) ((l .lo + l .hi) / 2))) (a .word .now) ≡ false = rw (← c .before .before .before .before .before .entry .ensures, ← c .before .before .whole-word .ensures) (sym (c .before .smaller .ensures) ∙ c .if2 .left) in
     (omega arith, omega arith, l .inv .2 ∙ search-down (a .index .now) (a .lex-data .now) (a .word .now) (l .lo) (l .hi) (omega arith) w s)
 
 returns-2 : tie.Need-returns-2 Inv-loop μ-loop
@@ -88,7 +88,7 @@ search-spec =
     entry-requires
     is-whole-requires
     returns
-    word-requires
+    whole-word-requires
     smaller-requires
     add-lo
     loop-less

@@ -36,8 +36,8 @@ returns c =
     let w : isWhole (entryAt (a .index .now) (a .lex-data .now) (l .i)) ≡ false = rw (← c .before .before .entry .ensures) (sym (c .before .is-whole .ensures) ∙ not-true (c .before .is-whole .result) (c .if1 .taken)) in
     rw (← c .before .before .before .before .before .count .ensures .0) (sym (l .inv ∙ tagged-damaged (a .index .now) (a .lex-data .now) (a .word .now) (a .tag) (a .lo) (c .before .before .before .before .before .count .result - l .i) (l .i) (omega arith) w))
 
-word-requires : tie.Need-word-requires Inv-loop μ-loop
-word-requires c κs = search needs
+whole-word-requires : tie.Need-whole-word-requires Inv-loop μ-loop
+whole-word-requires c κs = sym (c .before .is-whole .ensures) ∙ not-false (c .before .is-whole .result) (c .if1 .left)
 
 same-requires : tie.Need-same-requires Inv-loop μ-loop
 same-requires c κs = search needs
@@ -47,7 +47,7 @@ returns-2 c =
     let a = c .before .before .before .before .before .before .before .before .before .before .before .before .args in
     let l = c .before .before .before .before .before .before .before .loop in
     let w : isWhole (entryAt (a .index .now) (a .lex-data .now) (l .i)) ≡ true = rw (← c .before .before .before .before .before .entry .ensures) (sym (c .before .before .before .before .is-whole .ensures) ∙ not-false (c .before .before .before .before .is-whole .result) (c .before .before .before .if1 .left)) in
-    let s : same (wordOf (entryAt (a .index .now) (a .lex-data .now) (l .i))) (a .word .now) ≡ false = rw (← c .before .before .before .before .before .entry .ensures, ← c .before .before .word .ensures) (sym (c .before .same .ensures) ∙ not-true (c .before .same .result) (c .if2 .taken)) in
+    let s : same (wordOf (entryAt (a .index .now) (a .lex-data .now) (l .i))) (a .word .now) ≡ false = rw (← c .before .before .before .before .before .entry .ensures, ← c .before .before .whole-word .ensures) (sym (c .before .same .ensures) ∙ not-true (c .before .same .result) (c .if2 .taken)) in
     rw (← c .before .before .before .before .before .before .before .before .count .ensures .0) (sym (l .inv ∙ tagged-other (a .index .now) (a .lex-data .now) (a .word .now) (a .tag) (a .lo) (c .before .before .before .before .before .before .before .before .count .result - l .i) (l .i) (omega arith) w s))
 
 tag-requires : tie.Need-tag-requires Inv-loop μ-loop
@@ -58,7 +58,7 @@ returns-3 c =
     let a = c .before .before .before .before .before .before .before .before .before .before .before .before .before .before .args in
     let l = c .before .before .before .before .before .before .before .before .before .loop in
     let w : isWhole (entryAt (a .index .now) (a .lex-data .now) (l .i)) ≡ true = rw (← c .before .before .before .before .before .before .before .entry .ensures) (sym (c .before .before .before .before .before .before .is-whole .ensures) ∙ not-false (c .before .before .before .before .before .before .is-whole .result) (c .before .before .before .before .before .if1 .left)) in
-    let s : same (wordOf (entryAt (a .index .now) (a .lex-data .now) (l .i))) (a .word .now) ≡ true = rw (← c .before .before .before .before .before .before .before .entry .ensures, ← c .before .before .before .before .word .ensures) (sym (c .before .before .before .same .ensures) ∙ not-false (c .before .before .before .same .result) (c .before .before .if2 .left)) in
+    let s : same (wordOf (entryAt (a .index .now) (a .lex-data .now) (l .i))) (a .word .now) ≡ true = rw (← c .before .before .before .before .before .before .before .entry .ensures, ← c .before .before .before .before .whole-word .ensures) (sym (c .before .before .before .same .ensures) ∙ not-false (c .before .before .before .same .result) (c .before .before .if2 .left)) in
     let t : tagOf (entryAt (a .index .now) (a .lex-data .now) (l .i)) ≡ a .tag = rw (← c .before .before .before .before .before .before .before .entry .ensures) (sym (c .before .tag .ensures) ∙ c .if3 .taken) in
     rw (← c .before .before .before .before .before .before .before .before .before .before .count .ensures .0) (sym (l .inv ∙ tagged-stop (a .index .now) (a .lex-data .now) (a .word .now) (a .tag) (a .lo) (c .before .before .before .before .before .before .before .before .before .before .count .result - l .i) (l .i) (omega arith) w s t))
 
@@ -73,7 +73,7 @@ loop-again c =
     let a = c .before .before .before .before .before .before .before .before .before .before .before .before .before .before .args in
     let l = c .before .before .before .before .before .before .before .before .before .loop in
     let w : isWhole (entryAt (a .index .now) (a .lex-data .now) (l .i)) ≡ true = rw (← c .before .before .before .before .before .before .before .entry .ensures) (sym (c .before .before .before .before .before .before .is-whole .ensures) ∙ not-false (c .before .before .before .before .before .before .is-whole .result) (c .before .before .before .before .before .if1 .left)) in
-    let s : same (wordOf (entryAt (a .index .now) (a .lex-data .now) (l .i))) (a .word .now) ≡ true = rw (← c .before .before .before .before .before .before .before .entry .ensures, ← c .before .before .before .before .word .ensures) (sym (c .before .before .before .same .ensures) ∙ not-false (c .before .before .before .same .result) (c .before .before .if2 .left)) in
+    let s : same (wordOf (entryAt (a .index .now) (a .lex-data .now) (l .i))) (a .word .now) ≡ true = rw (← c .before .before .before .before .before .before .before .entry .ensures, ← c .before .before .before .before .whole-word .ensures) (sym (c .before .before .before .same .ensures) ∙ not-false (c .before .before .before .same .result) (c .before .before .if2 .left)) in
     let t : tagOf (entryAt (a .index .now) (a .lex-data .now) (l .i)) ≡ a .tag → ⊥ = rw (← c .before .before .before .before .before .before .before .entry .ensures, ← c .before .tag .ensures) (c .if3 .left) in
     let e : c .before .before .before .before .before .before .before .before .before .before .count .result - l .i - 1 ≡ c .before .before .before .before .before .before .before .before .before .before .count .result - (l .i + 1) = omega arith in
     l .inv ∙ tagged-turn (a .index .now) (a .lex-data .now) (a .word .now) (a .tag) (a .lo) (c .before .before .before .before .before .before .before .before .before .before .count .result - l .i) (l .i) (omega arith) w s t ∙ rw e
@@ -95,7 +95,7 @@ tagged-spec =
     entry-requires
     is-whole-requires
     returns
-    word-requires
+    whole-word-requires
     same-requires
     returns-2
     tag-requires
