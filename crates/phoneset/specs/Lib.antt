@@ -1,3 +1,5 @@
 pub mod Phones
 pub mod Rules
+pub mod Vowels
+pub mod Keys
 pub mod Stress

@@ -1,0 +1,26 @@
+-- `phoneset::is_vowel_pair` meets its contract: the numbers matched are those of the vowels of two letters. Assumes nothing.
+use Prim.Native.Nat.{_+_, _*_}
+use native.Mathlib.Omega.{arith}
+use mathlib.Core.Path.{sym, _∙_}
+use Rattle.phoneset.specs.Phones.{phones}
+use Rattle.phoneset.specs.Vowels.{plus, vowels, ofLength, number, pairs, vowel-two}
+use Rattle.phoneset.specs.Keys.{insert, sorted, key-in, key-out}
+use Rattle.phoneset.proofs.is_vowel_pair.Statement.{statement}
+use Rattle.phoneset.proofs.is_vowel_pair.Tie as tie
+
+mul-match : tie.Need-mul-match
+mul-match c = omega arith
+
+add-match : tie.Need-add-match
+add-match c = omega arith
+
+returns : tie.Need-returns
+unfolding phones plus vowels ofLength number pairs insert sorted
+returns c = let a = c .before .args in sym (vowel-two (a .a) (a .b) (omega arith) ∙ key-in (a .a + 256 * a .b) pairs (c .match .keys1))
+
+returns-2 : tie.Need-returns-2
+unfolding phones plus vowels ofLength number pairs insert sorted
+returns-2 c = let a = c .before .args in sym (vowel-two (a .a) (a .b) (omega arith) ∙ key-out (a .a + 256 * a .b) pairs (c .match .rest .1))
+
+pub is-vowel-pair-spec : {M : Type 1} → statement M
+is-vowel-pair-spec = tie.close (tie.spec mul-match add-match returns returns-2)
