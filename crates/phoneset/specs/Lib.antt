@@ -1,5 +1,4 @@
 pub mod Phones
 pub mod Rules
 pub mod Vowels
-pub mod Keys
 pub mod Stress
