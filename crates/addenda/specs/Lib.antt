@@ -2,3 +2,4 @@ pub mod Addenda
 pub mod Rules
 pub mod Find
 pub mod Rows
+pub mod Starts

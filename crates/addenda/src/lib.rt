@@ -1,5 +1,6 @@
 // The 42 addenda (01, Lookup): words that the compiled entries would get wrong.
 ghost use mathlib.Core.Path.{_≡_};
+ghost use mathlib.Core.Bool.{false};
 ghost use mathlib.Core.List.{_++_};
 ghost use Prim.Native.Nat.{_*_, _≤_, _<_};
 ghost use lib.ListN.{length, getD, drop};
@@ -7,6 +8,7 @@ ghost use Rattle.texts.specs.Lists.{place};
 ghost use Rattle.cells.specs.Cells.{text, cellsOf};
 ghost use Rattle.addenda.specs.Addenda.{addenda, noAddendum, encoded};
 ghost use Rattle.addenda.specs.Find.{isMeant};
+ghost use Rattle.addenda.specs.Starts.{isStart};
 
 // A row: a tag, a length byte and six bytes for the word, a count, and as many cells of a length
 // byte and three bytes for the phones, of which there are at most eight.
@@ -82,10 +84,46 @@ fn is_meant(n: usize, word: &[u8], tag: u8) -> bool
     texts::both(same, texts::agree(true, row[0], tag))
 }
 
+// Whether a row may be this byte: none is a letter or a digit.
+fn may_be_sign(b: u8) -> bool
+    ensures { λ r. ⌜ (r ≡ false → isStart 1 b ≡ false) ⌝ }
+{
+    match b {
+        b'0'..=b'9' | b'A'..=b'Z' | b'a'..=b'z' => false,
+        _ => true,
+    }
+}
+
+// Whether a row's word may have this length and first byte.
+fn may_be_row(n: usize, first: u8) -> bool
+    ensures { λ r. ⌜ (r ≡ false → isStart n first ≡ false) ⌝ }
+{
+    match n {
+        1 => may_be_sign(first),
+        2 => match first {
+            b'\'' | b'_' | b'i' | b't' => true,
+            _ => false,
+        },
+        4 => first == b's',
+        5 => match first {
+            b'e' | b'y' => true,
+            _ => false,
+        },
+        6 => match first {
+            b'd' | b'h' => true,
+            _ => false,
+        },
+        _ => false,
+    }
+}
+
 // The first row with this word, unfolded, and a tag that agrees; 42 where there is none.
 pub fn find(word: &[u8], tag: u8) -> usize
     ensures { λ r. ⌜ r ≡ place (isMeant (now (word .entry)) tag) addenda ⌝ }
 {
+    if !may_be_row(word.len(), records::byte_at(word, 0)) {
+        return 42;
+    }
     let mut n = 0;
     while n < 42 {
         if is_meant(n, word, tag) {

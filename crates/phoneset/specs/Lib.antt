@@ -1,3 +1,4 @@
 pub mod Phones
 pub mod Rules
+pub mod Vowels
 pub mod Stress

@@ -1,18 +1,16 @@
 -- The rules of the table of phones, each one test that is computed over the whole table.
 -- Assumes nothing.
-use Prim.Native.Nat.{ℕ, _+_, _-_, _≤_, _<_}
-use native.Mathlib.Omega.{arith}
-use mathlib.Core.Path.{_≡_, refl, sym, ap, _∙_, subst}
-use mathlib.Core.Bool.{Bool, true, false, _&&_}
-use mathlib.Core.List.{List, _++_, map, append-assoc}
+use Prim.Native.Nat.{ℕ, _≤_, _<_}
+use mathlib.Core.Path.{_≡_, refl}
+use mathlib.Core.Bool.{Bool, true, _&&_}
+use mathlib.Core.List.{List, map}
 use lib.Dec.{leb, eqb}
-use lib.ListN.{length, getD, replicate, length-append, length-replicate, List·getD-eq-default}
-use lib.Seq.{getD-append-add}
+use lib.ListN.{length, getD}
 use borrow.Author.Tests.{leb-true}
 use Rattle.texts.specs.Choice.{both-true}
 use Rattle.texts.specs.Lists.{every, some, every-at}
 use Rattle.texts.specs.Text.{ascii, low, same, distinct}
-use Rattle.phoneset.specs.Phones.{Phone, phones, noPhone, encoded, rowOf, isVowel}
+use Rattle.phoneset.specs.Phones.{Phone, phones, noPhone}
 
 pub phone-count : length phones ≡ 50
 unfolding phones
@@ -39,20 +37,3 @@ name-short n h =
     let f = both-true _ _ (every-at fits phones noPhone phones-fit n k) in
     let g = both-true _ _ (f .0) in
     leb-true (length (r .name)) 4 (both-true _ _ (g .0) .0)
-
--- vc stands behind the name's five bytes
-pub vc-at : (r : Phone) → length (r .name) ≤ 4 → getD (encoded r) 5 0 ≡ getD (r .features) 0 0
-unfolding encoded
-vc-at r h =
-    let x = r .name in
-    let z : List ℕ = replicate (4 - length x) 0 in
-    let l : length (x ++ z) ≡ 4 = simp (length-append, length-replicate) (omega arith) in
-    ap (λ (s : List ℕ). getD s 4 0) (sym (append-assoc x z (r .features)))
-    ∙ subst (λ (k : ℕ). getD ((x ++ z) ++ r .features) (k + 0) 0 ≡ getD (r .features) 0 0) l (getD-append-add (x ++ z) (r .features) 0 0)
-
--- past the rows there is no vowel
-pub no-vowel : (x : List ℕ) → 50 ≤ rowOf x → isVowel x ≡ false
-unfolding isVowel
-no-vowel x h =
-    let k : length phones ≤ rowOf x = rw phone-count h in
-    rw (List·getD-eq-default phones noPhone k)

@@ -1,5 +1,6 @@
 // The 50 phones and their eight features (01, Phones), what is a vowel, and the stress of a phone.
 ghost use mathlib.Core.Path.{_≡_};
+ghost use mathlib.Core.List.{[], _∷_};
 ghost use Prim.Native.Nat.{_<_};
 ghost use lib.ListN.{length, getD};
 ghost use Rattle.texts.specs.Text.{same};
@@ -99,15 +100,42 @@ pub fn is_known(phone: &[u8]) -> bool
     row_of(phone) < 50
 }
 
+// Whether two letters are a vowel's name. The first letter is the low byte of the number matched.
+fn is_vowel_pair(a: u8, b: u8) -> bool
+    ensures { λ r. ⌜ r ≡ isVowel (a ∷ b ∷ []) ⌝ }
+{
+    match (a as u16) + 256 * (b as u16) {
+        0x6161 // aa
+        | 0x6561 // ae
+        | 0x6861 // ah
+        | 0x6F61 // ao
+        | 0x7761 // aw
+        | 0x7861 // ax
+        | 0x7961 // ay
+        | 0x6865 // eh
+        | 0x6C65 // el
+        | 0x6D65 // em
+        | 0x6E65 // en
+        | 0x7265 // er
+        | 0x7965 // ey
+        | 0x6869 // ih
+        | 0x7969 // iy
+        | 0x776F // ow
+        | 0x796F // oy
+        | 0x6875 // uh
+        | 0x7775 => true, // uw
+        _ => false,
+    }
+}
+
 pub fn is_vowel(phone: &[u8]) -> bool
     ensures { λ r. ⌜ r ≡ isVowel (now (phone .entry)) ⌝ }
 {
-    let n = row_of(phone);
-    if n < 50 {
-        let row = phone_row(n);
-        return row[5] == 43;
+    match phone.len() {
+        2 => is_vowel_pair(phone[0], phone[1]),
+        3 => texts::same(phone, b"axr"),
+        _ => false,
     }
-    false
 }
 
 // How long the bare phone is, and its stress, 0 where it has none.

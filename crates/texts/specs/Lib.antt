@@ -2,3 +2,4 @@ pub mod Choice
 pub mod Lists
 pub mod Text
 pub mod Largest
+pub mod Keys

@@ -1,11 +1,14 @@
--- `addenda::find` meets its contract: no row passed is meant, so the rows left decide. Assumes nothing.
+-- `addenda::find` meets its contract: a word ruled out has no row; else no row passed is meant, so the rows left decide. Assumes nothing.
 use Rattle.addenda.specs.Rules.{addenda-count}
 use Rattle.addenda.specs.Find.{isMeant}
+use Rattle.addenda.specs.Starts.{no-start}
 use Rattle.addenda.specs.Addenda.{addenda, noAddendum}
 use Rattle.texts.specs.Lists.{place, place-turn, place-stop, place-end}
 use lib.ListN.{drop}
 use mathlib.Core.Path.{_≡_, sym, _∙_}
 use native.Mathlib.Omega.{arith}
+use borrow.Author.Tests.{not-true}
+use borrow.Author.Needs.{needs}
 use Prim.Native.Nat.{_≤_, _-_, _+_}
 use Rattle.addenda.proofs.find.Statement.{statement}
 use Rattle.addenda.proofs.find.Tie as tie
@@ -16,16 +19,28 @@ Inv-loop word tag n₀ n = (n ≤ 42) × (place (isMeant word tag) addenda ≡ n
 abbrev μ-loop : tie.MeasureT-loop
 μ-loop word tag n₀ n = 42 - n
 
+byte-at-requires : tie.Need-byte-at-requires Inv-loop μ-loop
+byte-at-requires c κs = search needs
+
+may-be-row-requires : tie.Need-may-be-row-requires Inv-loop μ-loop
+may-be-row-requires c κs = search needs
+
+returns : tie.Need-returns Inv-loop μ-loop
+returns c =
+    let a = c .before .before .before .before .args in
+    let h = c .before .may-be-row .ensures (not-true _ (c .if1 .taken)) in
+    sym (no-start (a .word .now) (a .tag) (rw (c .before .before .byte-at .ensures) at h))
+
 loop-holds : tie.Need-loop-holds Inv-loop μ-loop
 loop-holds c = (omega arith, omega arith)
 
 is-meant-requires : tie.Need-is-meant-requires Inv-loop μ-loop
 is-meant-requires c κs = omega arith
 
-returns : tie.Need-returns Inv-loop μ-loop
-returns c =
-    let a = c .before .before .before .before .before .args in
-    let e = place-stop (isMeant (a .word .now) (a .tag)) addenda (c .before .before .before .loop .n) noAddendum (rw addenda-count (omega arith)) (sym (c .before .is-meant .ensures) ∙ c .if1 .taken) in
+returns-2 : tie.Need-returns-2 Inv-loop μ-loop
+returns-2 c =
+    let a = c .before .before .before .before .before .before .before .before .args in
+    let e = place-stop (isMeant (a .word .now) (a .tag)) addenda (c .before .before .before .loop .n) noAddendum (rw addenda-count (omega arith)) (sym (c .before .is-meant .ensures) ∙ c .if2 .taken) in
     omega arith
 
 add-n : tie.Need-add-n Inv-loop μ-loop
@@ -36,13 +51,13 @@ loop-less c = omega arith
 
 loop-again : tie.Need-loop-again Inv-loop μ-loop
 loop-again c =
-    let a = c .before .before .before .before .before .args in
-    let e = place-turn (isMeant (a .word .now) (a .tag)) addenda (c .before .before .before .loop .n) noAddendum (rw addenda-count (omega arith)) (sym (c .before .is-meant .ensures) ∙ c .if1 .left) in
+    let a = c .before .before .before .before .before .before .before .before .args in
+    let e = place-turn (isMeant (a .word .now) (a .tag)) addenda (c .before .before .before .loop .n) noAddendum (rw addenda-count (omega arith)) (sym (c .before .is-meant .ensures) ∙ c .if2 .left) in
     (omega arith, omega arith)
 
-returns-2 : tie.Need-returns-2 Inv-loop μ-loop
-returns-2 c =
-    let a = c .before .before .before .args in
+returns-3 : tie.Need-returns-3 Inv-loop μ-loop
+returns-3 c =
+    let a = c .before .before .before .before .before .before .args in
     let e = place-end (isMeant (a .word .now) (a .tag)) addenda (c .before .loop .n) (rw addenda-count (omega arith)) in
     omega arith
 
@@ -52,10 +67,13 @@ find-spec =
     (tie.spec
     Inv-loop
     μ-loop
+    byte-at-requires
+    may-be-row-requires
+    returns
     loop-holds
     is-meant-requires
-    returns
+    returns-2
     add-n
     loop-less
     loop-again
-    returns-2)
+    returns-3)

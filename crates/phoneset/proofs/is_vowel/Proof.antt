@@ -1,35 +1,49 @@
--- `phoneset::is_vowel` meets its contract: the row's sixth byte is its vc. Assumes nothing.
-use Prim.Native.Nat.{ℕ, _<_}
+-- `phoneset::is_vowel` meets its contract: the vowels have two letters, but for "axr". Assumes nothing.
+use mathlib.Core.Path.{_≡_, sym, ap, _∙_}
+use mathlib.Core.List.{List, [], _∷_}
 use native.Mathlib.Omega.{arith}
-use mathlib.Core.Path.{_≡_, sym, ap, _∙_, subst}
-use lib.ListN.{getD}
-use lib.Dec.{eqb}
-use Rattle.phoneset.specs.Phones.{phones, noPhone, encoded, isVowel}
-use Rattle.phoneset.specs.Rules.{vc-at, name-short, no-vowel}
+use Prim.Native.Nat.{ℕ}
+use Rattle.phoneset.specs.Phones.{isVowel}
+use Rattle.phoneset.specs.Vowels.{two-bytes, vowel-three, vowel-other}
 use borrow.Author.Needs.{needs}
 use Rattle.phoneset.proofs.is_vowel.Statement.{statement}
 use Rattle.phoneset.proofs.is_vowel.Tie as tie
 
-row-of-requires : tie.Need-row-of-requires
-row-of-requires c κs = search needs
+shared-slice-read-is-vowel-pair : tie.Need-shared-slice-read-is-vowel-pair
+shared-slice-read-is-vowel-pair c = omega arith
 
-phone-row-requires : tie.Need-phone-row-requires
-phone-row-requires c κs = search needs
+shared-slice-read-is-vowel-pair-2 : tie.Need-shared-slice-read-is-vowel-pair-2
+shared-slice-read-is-vowel-pair-2 c = omega arith
 
-array-read-result : tie.Need-array-read-result
-array-read-result c = search needs
+is-vowel-pair-requires : tie.Need-is-vowel-pair-requires
+is-vowel-pair-requires c κs = search needs
+
+slice-aggregate-same : tie.Need-slice-aggregate-same
+slice-aggregate-same c = search needs
+
+same-requires : tie.Need-same-requires
+same-requires c κs = search needs
 
 returns : tie.Need-returns
-unfolding isVowel
 returns c =
-    let n = c .before .before .row-of .result in
-    let h : n < 50 = omega arith in
-    let r = getD phones n noPhone in
-    cc (vc-at r (name-short n h))
+    let x = c .before .before .before .before .before .args .phone .now in
+    c .is-vowel-pair .ensures ∙ ap (λ (l : List ℕ). isVowel l) (sym (two-bytes x (c .before .before .before .match .keys1)))
 
 returns-2 : tie.Need-returns-2
-returns-2 c = sym (no-vowel (c .before .before .before .args .phone .now) (omega arith))
+returns-2 c = c .same .ensures ∙ sym (vowel-three (c .before .before .before .before .args .phone .now) (c .before .before .match .keys2))
+
+returns-3 : tie.Need-returns-3
+returns-3 c = sym (vowel-other (c .before .before .args .phone .now) (c .match .rest .0 .1) (c .match .rest .1))
 
 pub is-vowel-spec : {M : Type 1} → statement M
 is-vowel-spec =
-    tie.close (tie.spec row-of-requires phone-row-requires array-read-result returns returns-2)
+    tie.close
+    (tie.spec
+    shared-slice-read-is-vowel-pair
+    shared-slice-read-is-vowel-pair-2
+    is-vowel-pair-requires
+    slice-aggregate-same
+    same-requires
+    returns
+    returns-2
+    returns-3)
