@@ -57,7 +57,10 @@ pub fn u16_at(s: &[u8], k: usize) -> u16
     if s.len() <= k {
         return 0;
     }
-    pair(s[k], byte_at(s, k + 1))
+    if s.len() - k == 1 {
+        return pair(s[k], 0);
+    }
+    pair(s[k], s[k + 1])
 }
 
 // Two halves as a number, the low one first.
