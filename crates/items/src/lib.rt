@@ -58,14 +58,7 @@ fn is_clean(item: &[u8]) -> bool
     if 47 < n {
         return false;
     }
-    let mut i = 17 + n;
-    while i < item.len() {
-        if item[i] != 0 {
-            return false;
-        }
-        i += 1;
-    }
-    true
+    records::are_zeros(records::tail(item, 17 + n))
 }
 
 // Whether an item has this kind and this stress.

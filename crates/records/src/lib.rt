@@ -3,6 +3,8 @@ ghost use mathlib.Core.Path.{_≡_};
 ghost use Prim.Native.Nat.{_+_, _*_, _<_, _≤_};
 ghost use lib.ListN.{length, getD, take, drop, replicate};
 ghost use lib.Seq.{paste};
+ghost use Rattle.texts.specs.Lists.{every};
+ghost use Rattle.texts.specs.Text.{is};
 ghost use Rattle.records.specs.Fields.{u16At, u32At, put16};
 
 // The byte at k.
@@ -24,6 +26,13 @@ pub fn head(s: &[u8], n: usize) -> &[u8]
     ensures { λ r. ⌜ now r ≡ take n (now (s .entry)) ⌝ }
 {
     if n < s.len() { &s[0..n] } else { s }
+}
+
+// Whether every byte is zero.
+pub fn are_zeros(s: &[u8]) -> bool
+    ensures { λ r. ⌜ r ≡ every (is 0) (now (s .entry)) ⌝ }
+{
+    texts::largest(s) == 0
 }
 
 // Two bytes as a number, the low one first.

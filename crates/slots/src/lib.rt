@@ -4,9 +4,12 @@ ghost use mathlib.Core.List.{map};
 ghost use Prim.Native.Nat.{_+_, _/_, _≤_, _<_};
 ghost use lib.ListN.{length};
 ghost use lib.Seq.{paste};
+ghost use Rattle.texts.specs.Lists.{every};
 ghost use Rattle.texts.specs.Text.{folded};
+ghost use Rattle.records.specs.Records.{records};
 ghost use Rattle.cells.specs.Cells.{phonesOf};
-ghost use Rattle.slots.specs.Slot.{slot as slotOf, entryOf, isFolded, fits, isSlot};
+ghost use Rattle.slots.specs.Slot.{slot as slotOf, entryOf, isFolded, isSlot};
+ghost use Rattle.slots.specs.Parts.{isKey, isBlank, usedCells, isTidy};
 
 // A word into dst from k on, folded.
 pub fn put_folded(dst: &mut [u8], k: usize, word: &[u8])
@@ -53,14 +56,21 @@ pub fn word(slot: &[u8]) -> &[u8]
     )
 }
 
-// The phones as cells.
-pub fn phones(slot: &[u8]) -> &[u8]
-    ensures { λ r. ⌜ phonesOf (now r) ≡ entryOf (now (slot .entry)) .phones ⌝ }
+// The cells that are used.
+fn used_cells(slot: &[u8]) -> &[u8]
+    ensures { λ r. ⌜ now r ≡ usedCells (now (slot .entry)) ⌝ }
 {
     records::head(
         records::tail(slot, 64),
         16 * texts::wide(records::byte_at(slot, 51)),
     )
+}
+
+// The phones as cells.
+pub fn phones(slot: &[u8]) -> &[u8]
+    ensures { λ r. ⌜ phonesOf (now r) ≡ entryOf (now (slot .entry)) .phones ⌝ }
+{
+    used_cells(slot)
 }
 
 // Whether case folding leaves a word as it is.
@@ -77,10 +87,9 @@ fn is_folded(word: &[u8]) -> bool
     true
 }
 
-// Whether the entry that a slot holds may be one.
-fn is_fit(slot: &[u8]) -> bool
-    requires { ⌜ length (now slot) ≡ 512 ⌝ }
-    ensures { λ r. ⌜ r ≡ fits (entryOf (now (slot .entry))) ⌝ }
+// Whether tag, word and phone count may be those of an entry.
+fn is_key(slot: &[u8]) -> bool
+    ensures { λ r. ⌜ r ≡ isKey (now (slot .entry)) ⌝ }
 {
     if 128 <= tag(slot) {
         return false;
@@ -91,23 +100,51 @@ fn is_fit(slot: &[u8]) -> bool
     if !is_folded(word(slot)) {
         return false;
     }
-    if 24 < records::byte_at(slot, 51) {
-        return false;
-    }
-    cells::are_ascii(phones(slot))
+    records::byte_at(slot, 51) <= 24
 }
 
-// Whether a slot is what would be written for the entry it holds; room is as long as a slot.
-fn is_written(slot: &[u8], room: &mut [u8]) -> bool
-    requires { ⌜ (length (now slot) ≡ 512) × (length (now room) ≡ 512) ⌝ }
-    ensures { λ r. ⌜ r ≡ isSlot (now (slot .entry)) ⌝ }
+// Whether the bytes past the word, 52 to 63, and those past the phones are zero.
+fn is_blank(slot: &[u8]) -> bool
+    ensures { λ r. ⌜ r ≡ isBlank (now (slot .entry)) ⌝ }
 {
-    if !is_fit(slot) {
+    let n = texts::wide(records::byte_at(slot, 3));
+    if !records::are_zeros(records::tail(records::head(slot, 51), 4 + n)) {
         return false;
     }
-    write(room, tag(slot), word(slot), phones(slot));
-    records::put_u16(room, 0, records::u16_at(slot, 0));
-    texts::same(slot, room)
+    if !records::are_zeros(records::tail(records::head(slot, 64), 52)) {
+        return false;
+    }
+    let count = texts::wide(records::byte_at(slot, 51));
+    records::are_zeros(records::tail(slot, 64 + 16 * count))
+}
+
+// Whether the length of a cell is at most 15, and the bytes past its text are zero.
+fn is_tidy(cell: &[u8]) -> bool
+    requires { ⌜ length (now cell) ≡ 16 ⌝ }
+    ensures { λ r. ⌜ r ≡ isTidy (now (cell .entry)) ⌝ }
+{
+    let n = texts::wide(cell[0]);
+    if 15 < n {
+        return false;
+    }
+    records::are_zeros(&cell[1 + n..])
+}
+
+// Whether each of the cells is so.
+fn are_tidy(list: &[u8]) -> bool
+    ensures { λ r. ⌜ r ≡ every isTidy (records 16 (now (list .entry))) ⌝ }
+{
+    let n = list.len() / 16;
+    let mut i = 0;
+    while i < n {
+        let from = 16 * i;
+        let to = from + 16;
+        if !is_tidy(&list[from..to]) {
+            return false;
+        }
+        i += 1;
+    }
+    true
 }
 
 // Whether a slot is sound by itself.
@@ -115,6 +152,14 @@ pub fn is_slot(slot: &[u8]) -> bool
     requires { ⌜ length (now slot) ≡ 512 ⌝ }
     ensures { λ r. ⌜ r ≡ isSlot (now (slot .entry)) ⌝ }
 {
-    let mut room = [0u8; 512];
-    is_written(slot, &mut room)
+    if !is_key(slot) {
+        return false;
+    }
+    if !is_blank(slot) {
+        return false;
+    }
+    if !texts::is_ascii(used_cells(slot)) {
+        return false;
+    }
+    are_tidy(used_cells(slot))
 }

@@ -1,29 +1,18 @@
--- `slots::phones` meets its contract: as many cells from 64 on as byte 51 tells. Assumes nothing.
+-- `slots::phones` meets its contract: the cells that are used. Assumes nothing.
 use Rattle.slots.specs.Slot.{entryOf}
+use Rattle.slots.specs.Parts.{usedCells}
+use Rattle.cells.specs.Cells.{phonesOf}
+use mathlib.Core.Path.{ap}
 use borrow.Author.Needs.{needs}
 use Rattle.slots.proofs.phones.Statement.{statement}
 use Rattle.slots.proofs.phones.Tie as tie
 
-tail-requires : tie.Need-tail-requires
-tail-requires c κs = search needs
-
-byte-at-requires : tie.Need-byte-at-requires
-byte-at-requires c κs = search needs
-
-wide-requires : tie.Need-wide-requires
-wide-requires c κs = search needs
-
-mul-head : tie.Need-mul-head
-mul-head c = search needs
-
-head-requires : tie.Need-head-requires
-head-requires c κs = search needs
+used-cells-requires : tie.Need-used-cells-requires
+used-cells-requires c κs = search needs
 
 returns : tie.Need-returns
-unfolding entryOf
-returns c = rw (c .head .ensures, c .before .before .before .tail .ensures, c .before .wide .ensures .0, c .before .before .byte-at .ensures)
+unfolding entryOf usedCells
+returns c = ap phonesOf (c .used-cells .ensures)
 
 pub phones-spec : {M : Type 1} → statement M
-phones-spec =
-    tie.close
-    (tie.spec tail-requires byte-at-requires wide-requires mul-head head-requires returns)
+phones-spec = tie.close (tie.spec used-cells-requires returns)

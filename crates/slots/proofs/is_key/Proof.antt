@@ -1,15 +1,14 @@
--- `slots::is_fit` meets its contract: each return is decided by the first test of the definition that fails. Assumes nothing.
-use Rattle.slots.specs.Slot.{entryOf, fits, isFolded, count-fits, phones-fit}
+-- `slots::is_key` meets its contract: each return is decided by the first test of the definition that fails. Assumes nothing.
+use Rattle.slots.specs.Slot.{entryOf, isFolded}
+use Rattle.slots.specs.Parts.{isKey}
 use Rattle.texts.specs.Text.{low, isWord}
-use borrow.Author.Tests.{lt-ltb, le-ltb, le-leb, lt-leb, not-true, not-false}
-use lib.ListN.{length, getD}
-use lib.Dec.{leb}
+use borrow.Author.Tests.{lt-ltb, le-ltb, not-true, not-false}
 use mathlib.Core.Bool.{true, false}
 use mathlib.Core.Path.{_≡_, sym, ap, _∙_}
 use native.Mathlib.Omega.{arith}
 use borrow.Author.Needs.{needs}
-use Rattle.slots.proofs.is_fit.Statement.{statement}
-use Rattle.slots.proofs.is_fit.Tie as tie
+use Rattle.slots.proofs.is_key.Statement.{statement}
+use Rattle.slots.proofs.is_key.Tie as tie
 
 isLow : (c : tie.Else1) → low (entryOf (c .before .before .before .args .slot .now) .tag) ≡ true
 unfolding low
@@ -25,7 +24,7 @@ tag-requires : tie.Need-tag-requires
 tag-requires c κs = search needs
 
 returns : tie.Need-returns
-unfolding fits low
+unfolding isKey entryOf low
 returns c =
     let t = entryOf (c .before .before .before .args .slot .now) .tag in
     let e = c .before .tag .ensures in
@@ -38,7 +37,7 @@ is-word-requires : tie.Need-is-word-requires
 is-word-requires c κs = search needs
 
 returns-2 : tie.Need-returns-2
-unfolding fits
+unfolding isKey entryOf
 returns-2 c =
     let w : isWord (entryOf (c .before .before .before .before .before .before .args .slot .now) .word) ≡ false = sym (c .before .is-word .ensures ∙ ap isWord (c .before .before .word .ensures)) ∙ not-true (c .before .is-word .result) (c .if2 .taken) in
     rw (isLow (c .before .before .before), w)
@@ -50,7 +49,7 @@ is-folded-requires : tie.Need-is-folded-requires
 is-folded-requires c κs = search needs
 
 returns-3 : tie.Need-returns-3
-unfolding fits
+unfolding isKey entryOf
 returns-3 c =
     let w : isFolded (entryOf (c .before .before .before .before .before .before .before .before .before .args .slot .now) .word) ≡ false = sym (c .before .is-folded .ensures ∙ ap isFolded (c .before .before .word2 .ensures)) ∙ not-true (c .before .is-folded .result) (c .if3 .taken) in
     rw (isLow (c .before .before .before .before .before .before), worded (c .before .before .before), w)
@@ -59,29 +58,11 @@ byte-at-requires : tie.Need-byte-at-requires
 byte-at-requires c κs = search needs
 
 returns-4 : tie.Need-returns-4
-unfolding fits
-returns-4 c =
-    let r = c .before .before .before .before .before .before .before .before .before .before .before .args .slot .now in
-    let b = c .before .byte-at .ensures in
-    let n : leb (length (entryOf r .phones)) 24 ≡ false = count-fits r (c .before .before .before .before .before .before .before .before .before .before .before .pre) ∙ lt-leb (getD r 51 0) 24 (omega arith) in
-    rw (isLow (c .before .before .before .before .before .before .before .before), worded (c .before .before .before .before .before), small (c .before .before), n)
+unfolding isKey entryOf
+returns-4 c = rw (isLow (c .before .before .before .before .before .before .before), worded (c .before .before .before .before), small (c .before), ← c .byte-at .ensures)
 
-phones-requires : tie.Need-phones-requires
-phones-requires c κs = search needs
-
-are-ascii-requires : tie.Need-are-ascii-requires
-are-ascii-requires c κs = search needs
-
-returns-5 : tie.Need-returns-5
-unfolding fits
-returns-5 c =
-    let r = c .before .before .before .before .before .before .before .before .before .before .before .before .before .args .slot .now in
-    let b = c .before .before .before .byte-at .ensures in
-    let n : leb (length (entryOf r .phones)) 24 ≡ true = count-fits r (c .before .before .before .before .before .before .before .before .before .before .before .before .before .pre) ∙ le-leb (getD r 51 0) 24 (omega arith) in
-    rw (isLow (c .before .before .before .before .before .before .before .before .before .before), worded (c .before .before .before .before .before .before .before), small (c .before .before .before .before), n, ← c .before .phones .ensures) (c .are-ascii .ensures ∙ sym (phones-fit (c .before .phones .result .now)))
-
-pub is-fit-spec : {M : Type 1} → statement M
-is-fit-spec =
+pub is-key-spec : {M : Type 1} → statement M
+is-key-spec =
     tie.close
     (tie.spec
     tag-requires
@@ -93,7 +74,4 @@ is-fit-spec =
     is-folded-requires
     returns-3
     byte-at-requires
-    returns-4
-    phones-requires
-    are-ascii-requires
-    returns-5)
+    returns-4)

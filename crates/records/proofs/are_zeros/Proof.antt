@@ -1,0 +1,17 @@
+-- `records::are_zeros` meets its contract: every byte is zero exactly if the largest is. Assumes nothing.
+use Prim.Native.Nat.{ℕ}
+use mathlib.Core.Path.{sym, ap, _∙_}
+use lib.Dec.{eqb}
+use Rattle.texts.specs.Largest.{zeros-largest}
+use borrow.Author.Needs.{needs}
+use Rattle.records.proofs.are_zeros.Statement.{statement}
+use Rattle.records.proofs.are_zeros.Tie as tie
+
+largest-requires : tie.Need-largest-requires
+largest-requires c κs = search needs
+
+returns : tie.Need-returns
+returns c = ap (λ (m : ℕ). eqb m 0) (c .largest .ensures) ∙ sym (zeros-largest (c .before .before .args .s .now))
+
+pub are-zeros-spec : {M : Type 1} → statement M
+are-zeros-spec = tie.close (tie.spec largest-requires returns)
