@@ -61,15 +61,7 @@ pub fn read(bytes: &[u8], faults: &mut Faults) -> Rules {
             faults.add(line.number, sentence);
         }
     }
-    for (i, letter) in rules.letters.iter().enumerate() {
-        if letter.closed_at.is_none() {
-            let name = (b'a' + i as u8) as char;
-            let sentence = format!(
-                "the letter {name} has no last rule without context; add one, such as [{name}] = PHONES, behind its other rules"
-            );
-            faults.add(letter.last_line, sentence);
-        }
-    }
+    rules.check_last(faults);
     rules
 }
 
@@ -88,6 +80,17 @@ impl Rules {
         } else {
             self.names
                 .define(head.trim_end_matches(lines::is_blank), tail)
+        }
+    }
+
+    fn check_last(&self, faults: &mut Faults) {
+        for (letter, name) in self.letters.iter().zip('a'..='z') {
+            if letter.closed_at.is_none() {
+                let sentence = format!(
+                    "the letter {name} has no last rule without context; add one, such as [{name}] = PHONES, behind its other rules"
+                );
+                faults.add(letter.last_line, sentence);
+            }
         }
     }
 

@@ -9,8 +9,8 @@ use crate::phones;
 pub const FILE: &str = "lexicon.txt";
 
 /// The longest word or tag, and the most phones of an entry.
-const LONGEST_WORD: usize = 47;
-const MOST_OF_ENTRY: usize = 96;
+pub const LONGEST_WORD: usize = 47;
+pub const MOST_OF_ENTRY: usize = 96;
 
 /// One entry: a folded word, the first byte of its tag, its phones.
 #[derive(Debug, PartialEq, Eq)]
@@ -106,6 +106,11 @@ pub fn phones(entries: &[Entry]) -> Vec<String> {
     table
 }
 
+fn number(table: &[String], phone: &String) -> u8 {
+    let place = table.iter().position(|known| known == phone);
+    place.expect("each phone is in the table") as u8
+}
+
 /// The sections of sorted entries, whose phones are in the table.
 pub fn sections(table: &[String], entries: &[Entry]) -> Sections {
     let mut index = (entries.len() as u32).to_le_bytes().to_vec();
@@ -115,10 +120,7 @@ pub fn sections(table: &[String], entries: &[Entry]) -> Sections {
         data.extend([entry.tag, entry.word.len() as u8]);
         data.extend(entry.word.as_bytes());
         data.push(entry.phones.len() as u8);
-        for phone in &entry.phones {
-            let number = table.iter().position(|known| known == phone);
-            data.push(number.expect("each phone is in the table") as u8);
-        }
+        data.extend(entry.phones.iter().map(|phone| number(table, phone)));
     }
     let phones = phones::table(table);
     Sections {

@@ -12,26 +12,31 @@ mod sections;
 mod trees;
 mod walk;
 
+use std::borrow::Cow;
+use std::ffi::OsString;
+use std::io::Write;
 use std::path::Path;
 use std::process::ExitCode;
 
 use fault::Fault;
 
+const USAGE: &str =
+    "say tables/make SOURCE_FOLDER OUTPUT_FOLDER, tables/try SOURCE_FOLDER WORD ..., \
+    or tables/from_flite OUTPUT_FOLDER [FOLDER_OF_THE_LIBRARIES]";
 /// The most faults that are told at once.
 const MOST_TOLD: usize = 20;
 
 fn main() -> ExitCode {
-    let arguments: Vec<String> = std::env::args().skip(1).collect();
-    let arguments: Vec<&str> = arguments.iter().map(String::as_str).collect();
+    let arguments: Vec<OsString> = std::env::args_os().skip(1).collect();
+    let arguments: Vec<Cow<str>> = arguments.iter().map(|a| a.to_string_lossy()).collect();
+    let arguments: Vec<&str> = arguments.iter().map(|a| a.as_ref()).collect();
     let outcome = match arguments[..] {
         ["make", source, output] => make(Path::new(source), Path::new(output)),
         ["flite", output] => from_flite(None, Path::new(output)),
         ["flite", output, libraries] => from_flite(Some(Path::new(libraries)), Path::new(output)),
         ["try", source, ref words @ ..] if !words.is_empty() => say(Path::new(source), words),
         _ => {
-            eprintln!(
-                "say tables/make SOURCE_FOLDER OUTPUT_FOLDER, or tables/try SOURCE_FOLDER WORD ..."
-            );
+            eprintln!("{USAGE}");
             return ExitCode::FAILURE;
         }
     };
@@ -67,12 +72,10 @@ fn from_flite(libraries: Option<&Path>, output: &Path) -> Result<(), Vec<Fault>>
 fn write(made: &sections::Made, output: &Path) -> Result<(), Fault> {
     sections::write(made, output)?;
     let [beginnings, endings] = made.cells;
-    println!(
-        "{}: {} entries, {} nodes, {beginnings} and {endings} cells",
-        output.display(),
-        made.entries,
-        made.nodes
-    );
+    let (folder, entries, nodes) = (output.display(), made.entries, made.nodes);
+    print(&format!(
+        "{folder}: {entries} entries, {nodes} nodes, {beginnings} and {endings} cells"
+    ));
     Ok(())
 }
 
@@ -81,7 +84,13 @@ fn say(source: &Path, words: &[&str]) -> Result<(), Vec<Fault>> {
     let text = sections::source_text(source, letters::FILE)?;
     let trees = trees::read(&text)?;
     for word in words {
-        println!("{word}: {}", walk::predict(&trees, word).join(" "));
+        let phones = walk::predict(&trees, word).join(" ");
+        print(&format!("{word} : {phones}"));
     }
     Ok(())
+}
+
+/// Prints a line; a reader that has gone away is no fault.
+fn print(line: &str) {
+    let _ = writeln!(std::io::stdout(), "{line}");
 }

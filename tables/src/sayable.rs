@@ -106,18 +106,11 @@ fn symbol(letter: u8) -> u8 {
 
 /// The cells of one side's machine. If they are too many, the first line with which they are is told.
 fn machine(listed: &[Listed], side: Side, faults: &mut Faults) -> Vec<u16> {
-    let lists = listed.iter().filter(|list| list.side == side);
-    let mut graph = Graph::default();
-    let root = graph.add_state();
-    let mut cells = graph.cells(root);
-    for list in lists {
-        for cluster in &list.clusters {
-            match side {
-                Side::Beginnings => graph.accept(root, cluster.bytes()),
-                Side::Endings => graph.accept(root, cluster.bytes().rev()),
-            }
-        }
-        cells = graph.cells(root);
+    let mut graph = Graph::new();
+    let mut cells = graph.cells();
+    for list in listed.iter().filter(|list| list.side == side) {
+        graph.accept_all(list);
+        cells = graph.cells();
         if cells.is_none() {
             faults.add(
                 list.number,
@@ -129,44 +122,50 @@ fn machine(listed: &[Listed], side: Side, faults: &mut Faults) -> Vec<u16> {
     cells.unwrap_or_default()
 }
 
-/// States with their steps by symbol; each may also step on a vowel.
-#[derive(Default)]
+/// States with their steps by symbol; each may also step on a vowel. State 0 is the one before any letter.
 struct Graph {
     steps: Vec<BTreeMap<u8, usize>>,
     vowel: Vec<bool>,
 }
 
 impl Graph {
-    /// A state; the one before any letter takes a vowel, so that words may begin and end with one.
-    fn add_state(&mut self) -> usize {
-        self.vowel.push(self.steps.is_empty());
-        self.steps.push(BTreeMap::new());
-        self.steps.len() - 1
+    /// The graph in which a vowel comes first.
+    fn new() -> Graph {
+        Graph {
+            steps: vec![BTreeMap::new()],
+            vowel: vec![true],
+        }
+    }
+
+    fn accept_all(&mut self, list: &Listed) {
+        for cluster in &list.clusters {
+            match list.side {
+                Side::Beginnings => self.accept(cluster.bytes()),
+                Side::Endings => self.accept(cluster.bytes().rev()),
+            }
+        }
     }
 
     /// Lets a cluster lead to a vowel.
-    fn accept(&mut self, root: usize, letters: impl Iterator<Item = u8>) {
-        let mut state = root;
+    fn accept(&mut self, letters: impl Iterator<Item = u8>) {
+        let mut state = 0;
         for letter in letters {
-            let symbol = symbol(letter);
-            state = match self.steps[state].get(&symbol) {
-                Some(&next) => next,
-                None => {
-                    let next = self.add_state();
-                    self.steps[state].insert(symbol, next);
-                    next
-                }
-            };
+            let fresh = self.steps.len();
+            state = *self.steps[state].entry(symbol(letter)).or_insert(fresh);
+            if state == fresh {
+                self.steps.push(BTreeMap::new());
+                self.vowel.push(false);
+            }
         }
         self.vowel[state] = true;
     }
 
     /// The cells, each set of steps written once; none if a state lies above the last number.
-    fn cells(&self, root: usize) -> Option<Vec<u16>> {
+    fn cells(&self) -> Option<Vec<u16>> {
+        let classes = self.classes();
         let mut cells = vec![cell(b'#', START), 0];
         let mut places = HashMap::new();
-        let classes = self.classes();
-        let mut waiting = vec![root];
+        let mut waiting = vec![0];
         let mut holes = Vec::new();
         while let Some(state) = waiting.pop() {
             if places.contains_key(&classes[state]) {
@@ -179,15 +178,17 @@ impl Graph {
             if self.vowel[state] {
                 cells.push(cell(b'V', DONE));
             }
-            for (&symbol, &next) in &self.steps[state] {
-                holes.push((cells.len(), symbol, classes[next]));
-                cells.push(0);
-                waiting.push(next);
-            }
-            cells.push(0);
+            let steps = self.steps[state].iter();
+            holes.extend(
+                steps
+                    .zip(cells.len()..)
+                    .map(|((&s, &next), at)| (at, s, classes[next])),
+            );
+            waiting.extend(self.steps[state].values());
+            cells.resize(cells.len() + self.steps[state].len() + 1, 0);
         }
-        for (place, symbol, class) in holes {
-            cells[place] = cell(symbol, places[&class]);
+        for (at, symbol, class) in holes {
+            cells[at] = cell(symbol, places[&class]);
         }
         Some(cells)
     }

@@ -6,7 +6,7 @@ use std::fs;
 use std::path::{Path, PathBuf};
 
 use crate::fault::Fault;
-use crate::lexicon::Entry;
+use crate::lexicon::{Entry, LONGEST_WORD, MOST_OF_ENTRY};
 use crate::sections::{self, Made};
 use crate::{phones, sayable, trees::Trees};
 use objects::{objects, Object};
@@ -133,7 +133,7 @@ fn entries(library: &Library) -> Result<Vec<Entry>, Fault> {
             .map(|&n| table.get(n as usize).cloned())
             .collect();
         match (word.split_first(), named) {
-            (Some((&tag, word)), Some(phones)) if word.is_ascii() => entries.push(Entry {
+            (Some((&tag, word)), Some(phones)) if fits(word, &phones) => entries.push(Entry {
                 word: String::from_utf8_lossy(word).into_owned(),
                 tag,
                 phones,
@@ -147,6 +147,10 @@ fn entries(library: &Library) -> Result<Vec<Entry>, Fault> {
     }
     entries.sort_by(|a, b| (a.word.as_bytes(), a.tag).cmp(&(b.word.as_bytes(), b.tag)));
     Ok(entries)
+}
+
+fn fits(word: &[u8], phones: &[String]) -> bool {
+    word.is_ascii() && word.len() <= LONGEST_WORD && phones.len() <= MOST_OF_ENTRY
 }
 
 /// The longer texts of bytes, up to a 0.

@@ -64,10 +64,12 @@ impl<'a> Object<'a> {
         })
     }
 
+    /// The sections of a kind that lie inside the file.
     fn headers(&self, kind: u32) -> Vec<Header> {
         let count = self.number(0x3c, 2).unwrap_or(0);
         let all = (0..count).filter_map(|section| self.header(section));
-        all.filter(|header| header.kind == kind).collect()
+        all.filter(|header| header.kind == kind && header.size <= self.bytes.len())
+            .collect()
     }
 
     /// The bytes at a place of the file up to the next 0.
@@ -107,22 +109,27 @@ impl<'a> Object<'a> {
     /// The texts that a table of pointers points to; an empty one where it has a null.
     pub fn texts(&self, name: &str) -> Option<Vec<&'a [u8]>> {
         let place = self.find(name)?;
-        let symbols = self.headers(SYMBOLS).pop()?;
         let mut texts = vec![&b""[..]; place.size / 8];
-        for list in self.headers(RELOCATIONS) {
-            if list.info != place.section {
-                continue;
-            }
-            for at in (list.offset..list.offset + list.size).step_by(24) {
-                let (offset, target) = (self.number(at, 8)?, self.number(at + 12, 4)?);
-                if (place.offset..place.offset + place.size).contains(&offset) {
-                    let to = self.symbol(&symbols, target)?;
-                    let start = self.header(to.section)?.offset + to.offset;
-                    let text = self.text(start + self.number(at + 16, 8)?)?;
-                    *texts.get_mut((offset - place.offset) / 8)? = text;
-                }
+        for (offset, text) in self.pointers(place.section)? {
+            if (place.offset..place.offset + place.size).contains(&offset) {
+                *texts.get_mut((offset - place.offset) / 8)? = text;
             }
         }
         Some(texts)
+    }
+
+    /// The places of the pointers in a section, each with the text that it points to.
+    fn pointers(&self, section: usize) -> Option<Vec<(usize, &'a [u8])>> {
+        let symbols = self.headers(SYMBOLS).pop()?;
+        let lists = self.headers(RELOCATIONS).into_iter();
+        let list = lists.rev().find(|list| list.info == section)?;
+        let places = (list.offset..list.offset + list.size).step_by(24);
+        let pointer = |at: usize| {
+            let to = self.symbol(&symbols, self.number(at + 12, 4)?)?;
+            let start = self.header(to.section)?.offset + to.offset;
+            let text = self.text(start + self.number(at + 16, 8)?)?;
+            Some((self.number(at, 8)?, text))
+        };
+        places.map(pointer).collect()
     }
 }
