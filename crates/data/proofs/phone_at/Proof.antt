@@ -1,7 +1,7 @@
 -- `data::phone_at` meets its contract: the string fits, so the reader takes it. Assumes nothing.
 use Prim.Native.Nat.{_+_, _-_}
 use native.Mathlib.Omega.{arith}
-use mathlib.Core.Path.{_≡_, refl}
+use mathlib.Core.Path.{_≡_}
 use lib.ListN.{getD}
 use Rattle.texts.specs.Choice.{never}
 use Rattle.data.specs.Places.{fits, textAt}
