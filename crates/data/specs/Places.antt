@@ -1,20 +1,21 @@
--- The strings of a phone table by the bytes they stand at: which fit by their lengths alone, and where they end.
+-- The strings of a phone table by the bytes they stand at: which fit by their lengths alone, where they end, and where each phone stands.
 -- Assumes nothing.
 use Prim.Native.Nat.{ℕ, zero, suc, _+_, _-_, _≤_, _<_}
 use native.Mathlib.Numerals.{add-one}
+use native.Mathlib.Nat.{not-suc-le-zero, le-of-suc-le-suc}
 use native.Mathlib.Omega.{arith}
 use mathlib.Core.Path.{_≡_, refl, sym, ap, _∙_}
 use mathlib.Core.Bool.{Bool, true, false, _&&_}
-use mathlib.Core.List.{List, [], _∷_, _++_}
+use mathlib.Core.List.{List, [], _∷_, _++_, append-nil}
 use lib.Dec.{leb, ltb}
-use lib.ListN.{length, getD, take, drop, length-drop}
-use lib.Seq.{drop-cons, drop-drop, getD-drop, take-add}
+use lib.ListN.{length, getD, take, drop, set, length-drop}
+use lib.Seq.{drop-cons, drop-drop, getD-drop, getD-take, take-add, take-suc-set, append-snoc}
 use borrow.Author.Tests.{lt-ltb, ltb-true, leb-true}
 use Rattle.texts.specs.Choice.{cases, both-true}
 use Rattle.texts.specs.Lists.{every}
 use Rattle.texts.specs.Text.{ascii, low}
 use Rattle.records.specs.Fields.{u32At}
-use Rattle.data.specs.Sections.{goodString, goodStrings, isPhoneTable, table-strings}
+use Rattle.data.specs.Sections.{goodString, goodStrings, strings, isPhoneTable, tablePhones, table-strings}
 
 -- the string at a byte lies inside its section, and its length is at most 15
 unfoldable pub fits : List ℕ → ℕ → Bool
@@ -29,6 +30,19 @@ allFit (suc n) s at = fits s at && allFit n s (at + (1 + getD s at 0))
 unfoldable pub endOf : ℕ → List ℕ → ℕ → ℕ
 endOf zero s at = at
 endOf (suc n) s at = endOf n s (at + (1 + getD s at 0))
+
+-- where each of them stands
+unfoldable pub places : ℕ → List ℕ → ℕ → List ℕ
+places zero s at = []
+places (suc n) s at = at ∷ places n s (at + (1 + getD s at 0))
+
+-- the text of the string at a byte
+unfoldable pub textAt : List ℕ → ℕ → List ℕ
+textAt s at = take (getD s at 0) (drop (at + 1) s)
+
+-- 256 numbers, the places of a table's phones in front
+unfoldable pub Placed : List ℕ → List ℕ → Type 0
+Placed s ps = (length ps ≡ 256) × (take (u32At s 0) ps ≡ places (u32At s 0) s 4)
 
 -- a string that fits
 pub record Fits (s : List ℕ) (at : ℕ) : Type 0 where
@@ -124,3 +138,48 @@ good-fit (suc n) s at =
 -- the strings of a table fit
 pub table-fit : (s : List ℕ) → isPhoneTable s ≡ true → allFit (u32At s 0) s 4 ≡ true
 table-fit s h = both-true (allFit (u32At s 0) s 4) (ascii (take (endOf (u32At s 0) s 4 - 4) (drop 4 s))) (sym (good-fit (u32At s 0) s 4) ∙ table-strings s h) .0
+
+-- the next place is written
+pub places-turn : (s ps : List ℕ) (n i at : ℕ) → i < n → i < length ps → places n s 4 ≡ take i ps ++ places (n - i) s at
+    → places n s 4 ≡ take (i + 1) (set ps i at) ++ places (n - (i + 1)) s (at + (1 + getD s at 0))
+unfolding places
+places-turn s ps n i at h inside e =
+    let k : n - i ≡ suc (n - (i + 1)) = omega arith in
+    let rest = places (n - (i + 1)) s (at + (1 + getD s at 0)) in
+    e
+    ∙ ap (λ (m : ℕ). take i ps ++ places m s at) k
+    ∙ sym (append-snoc (take i ps) at rest)
+    ∙ ap (λ (x : List ℕ). x ++ rest) (sym (take-suc-set ps i at inside))
+    ∙ rw add-one
+
+pub places-end : (s ps : List ℕ) (n i at : ℕ) → n ≡ i → places n s 4 ≡ take i ps ++ places (n - i) s at → take n ps ≡ places n s 4
+unfolding places
+places-end s ps n i at h e =
+    let z : n - i ≡ 0 = omega arith in
+    ap (λ (k : ℕ). take k ps) h ∙ sym (e ∙ ap (λ (m : ℕ). take i ps ++ places m s at) z ∙ rw append-nil)
+
+-- the k-th of n strings stands at the k-th place
+string-placed : (n k : ℕ) (s : List ℕ) (at : ℕ) → allFit n s at ≡ true → k < n
+    → (fits s (getD (places n s at) k 0) ≡ true) × (getD (strings n (drop at s)) k [] ≡ textAt s (getD (places n s at) k 0))
+unfolding allFit strings places textAt
+string-placed zero k s at h lt = absurd (not-suc-le-zero lt)
+string-placed (suc n) zero s at h lt =
+    let z : at + 0 ≡ at = omega arith in
+    (both-true (fits s at) (allFit n s (at + (1 + getD s at 0))) h .0, rw (getD-drop at s 0 0, z, drop-drop 1 at s))
+string-placed (suc n) (suc k) s at h lt =
+    let z : at + 0 ≡ at = omega arith in
+    let b = both-true (fits s at) (allFit n s (at + (1 + getD s at 0))) h in
+    let ih = string-placed n k s (at + (1 + getD s at 0)) (b .1) (le-of-suc-le-suc lt) in
+    (ih .0, rw (getD-drop at s 0 0, z, drop-drop (1 + getD s at 0) at s) (ih .1))
+
+-- phone k of a table is the string at the k-th place
+pub record PhoneAt (s : List ℕ) (place k : ℕ) : Type 0 where
+  pub fit : fits s place ≡ true
+  pub is : getD (tablePhones s) k [] ≡ textAt s place
+
+pub phone-placed : (s ps : List ℕ) (k : ℕ) → isPhoneTable s ≡ true → Placed s ps → k < u32At s 0 → PhoneAt s (getD ps k 0) k
+unfolding Placed tablePhones
+phone-placed s ps k h p lt =
+    let e : getD ps k 0 ≡ getD (places (u32At s 0) s 4) k 0 = sym (getD-take (u32At s 0) ps k 0 lt) ∙ ap (λ (l : List ℕ). getD l k 0) (p .1) in
+    let f = string-placed (u32At s 0) k s 4 (table-fit s h) lt in
+    record { fit = rw e (f .0); is = rw e (f .1) }

@@ -3,11 +3,11 @@
 use Prim.Native.Nat.{ℕ, zero, suc, _+_, _-_, _*_, _%_, _≤_, _<_}
 use native.Mathlib.Nat.{not-suc-le-zero, le-of-suc-le-suc}
 use native.Mathlib.Omega.{arith}
-use mathlib.Core.Path.{_≡_, refl, sym, ap, _∙_}
+use mathlib.Core.Path.{_≡_, refl, ap, _∙_}
 use mathlib.Core.Bool.{Bool, true, false, _&&_}
 use mathlib.Core.List.{List, [], _∷_}
 use lib.Dec.{leb, ltb, eqb}
-use lib.ListN.{length, getD, take, drop, length-take, length-drop}
+use lib.ListN.{length, getD, take, drop, length-take}
 use lib.Seq.{drop-drop, getD-drop}
 use borrow.Author.Tests.{leb-true, ltb-true}
 use Rattle.texts.specs.Choice.{both-true}
@@ -87,27 +87,8 @@ first-string n s h =
     let b = both-true (goodString s) (goodStrings n (drop (1 + getD s 0 0) s)) h in
     (string-front s (b .0), b .1)
 
--- the string at a place, by those behind the first
+-- one law for each turn of a loop that looks for a string
 module _ (s : List ℕ) (at m : ℕ) (more : 0 < m) where
-  pub string-here : getD (strings m (drop at s)) 0 [] ≡ take (getD s at 0) (drop (at + 1) s)
-  unfolding strings
-  string-here =
-      let n : m ≡ suc (m - 1) = omega arith in
-      let z : at + 0 ≡ at = omega arith in
-      ap (λ (k : ℕ). getD (strings k (drop at s)) 0 []) n ∙ rw (getD-drop at s 0 0, z, drop-drop 1 at s)
-
-  pub string-behind : (left : ℕ) → 0 < left
-      → getD (strings m (drop at s)) left [] ≡ getD (strings (m - 1) (drop (at + (1 + getD s at 0)) s)) (left - 1) []
-  unfolding strings
-  string-behind left h =
-      let n : m ≡ suc (m - 1) = omega arith in
-      let l : left ≡ suc (left - 1) = omega arith in
-      let z : at + 0 ≡ at = omega arith in
-      ap (λ (k : ℕ). getD (strings k (drop at s)) left []) n
-      ∙ ap (λ (k : ℕ). getD (strings (suc (m - 1)) (drop at s)) k []) l
-      ∙ rw (getD-drop at s 0 0, z, drop-drop (1 + getD s at 0) at s)
-
-  -- a string is this one, or one of those behind it is
   pub listed-here : (p : List ℕ) → same p (take (getD s at 0) (drop (at + 1) s)) ≡ true → some (same p) (strings m (drop at s)) ≡ true
   unfolding strings some
   listed-here p e =

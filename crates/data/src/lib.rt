@@ -1,11 +1,11 @@
 // The form of each section that a call takes (01, Sections), and the phones of a table.
 ghost use mathlib.Core.Path.{_≡_};
 ghost use mathlib.Core.Bool.{true};
-ghost use mathlib.Core.List.{[]};
 ghost use Prim.Native.Nat.{_≤_, _<_, _^_};
-ghost use lib.ListN.{getD};
+ghost use lib.ListN.{length};
 ghost use Rattle.records.specs.Fields.{u32At};
-ghost use Rattle.data.specs.Sections.{isPhoneTable, tablePhones, isListed, isLexIndex, isLtsIndex, isLtsModel, isAswd};
+ghost use Rattle.data.specs.Sections.{isPhoneTable, isListed, isLexIndex, isLtsIndex, isLtsModel, isAswd};
+ghost use Rattle.data.specs.Places.{fits, textAt, Placed};
 
 mod reader;
 
@@ -63,21 +63,30 @@ pub fn table_count(s: &[u8]) -> usize
     n
 }
 
-// Phone n of a table. No string of a table is broken, so neither `else` is ever entered.
-pub fn table_phone(s: &[u8], n: usize) -> &[u8]
-    requires { ⌜ (isPhoneTable (now s) ≡ true) × (n < u32At (now s) 0) ⌝ }
-    ensures { λ r. ⌜ now r ≡ getD (tablePhones (now (s .entry))) n [] ⌝ }
+// The places of a table's phones. No string of a table is broken, so the `else` is never entered.
+pub fn put_places(s: &[u8], places: &mut [u16])
+    requires { ⌜ (isPhoneTable (now s) ≡ true) × (length (now places) ≡ 256) ⌝ }
+    ensures { λ _. ⌜ Placed (now (s .entry)) (now (places .exit)) ⌝ }
 {
-    let mut left = n;
+    let n = table_count(s);
+    let mut i = 0;
     let mut at = 4;
-    while 0 < left {
+    while i < n {
         let Text::At(_, to) = reader::string_from(s, at) else {
-            return s;
+            return;
         };
+        places[i] = at as u16;
         at = to;
-        left -= 1;
+        i += 1;
     }
-    let Text::At(from, to) = reader::string_from(s, at) else {
+}
+
+// The phone at a place of a table. The string there fits, so the `else` is never entered.
+pub fn phone_at(s: &[u8], place: u16) -> &[u8]
+    requires { ⌜ fits (now s) place ≡ true ⌝ }
+    ensures { λ r. ⌜ now r ≡ textAt (now (s .entry)) place ⌝ }
+{
+    let Text::At(from, to) = reader::string_from(s, place as usize) else {
         return s;
     };
     &s[from..to]

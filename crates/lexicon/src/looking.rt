@@ -75,10 +75,13 @@ fn put_spoken(phones: &[u8], s: &[u8], out: &mut [u8])
     requires { ⌜ (isPhoneTable (now phones) ≡ true) × (isSpoken (now phones) (now s) ≡ true) × (16 * length (spokenOf (now phones) (now s)) ≤ length (now out)) ⌝ }
     ensures { λ _. ⌜ now (out .exit) ≡ cellsOf (spokenOf (now (phones .entry)) (now (s .entry))) ++ drop (16 * length (spokenOf (now (phones .entry)) (now (s .entry)))) (now (out .entry)) ⌝ }
 {
+    let mut places = [0u16; 256];
+    data::put_places(phones, &mut places);
     let numbers = compiled::numbers(s);
     let mut i = 0;
     while i < numbers.len() {
-        cells::put_cell(out, i, data::table_phone(phones, texts::wide(numbers[i])));
+        let place = places[texts::wide(numbers[i])];
+        cells::put_cell(out, i, data::phone_at(phones, place));
         i += 1;
     }
 }

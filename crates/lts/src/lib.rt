@@ -5,6 +5,7 @@ ghost use Prim.Native.Nat.{_+_, _*_, _≤_, _<_};
 ghost use mathlib.Core.Option.{some};
 ghost use lib.ListN.{length, take};
 ghost use Rattle.texts.specs.Text.{isWord};
+ghost use Rattle.data.specs.Places.{Placed};
 ghost use Rattle.answers.specs.Told.{toldPredicted};
 ghost use Rattle.lts.specs.Letters.{padded as paddedWord, window as windowAt, spoken, letter, letters, Puts, isTrees};
 ghost use Rattle.lts.specs.Call.{toldPhones, outPhones, predict as answer, predicted};
@@ -83,6 +84,7 @@ fn put_leaf(phone: &[u8], list: &mut [u8], at: usize) -> Letters
 // The phones of the byte at place k of a padded word, put before cell `at` of a list.
 fn put_letter(
     phones: &[u8],
+    places: &[u16],
     index: &[u8],
     model: &[u8],
     text: &[u8],
@@ -93,6 +95,7 @@ fn put_letter(
     requires { ⌜ isTrees (now phones) (now index) (now model) ≡ true ⌝ }
     requires { ⌜ (4 ≤ k) × (k + 4 < length (now text)) ⌝ }
     requires { ⌜ (2 ≤ at) × (16 * at ≤ length (now list)) ⌝ }
+    requires { ⌜ Placed (now phones) (now places) ⌝ }
     ensures { λ r. ⌜ Puts (letter (now (phones .entry)) (now (index .entry)) (now (model .entry)) (now (text .entry)) k) (now (list .entry)) at r (now (list .exit)) ⌝ }
 {
     let b = text[k];
@@ -104,7 +107,7 @@ fn put_letter(
             else {
                 return Letters::Damaged;
             };
-            put_leaf(data::table_phone(phones, texts::wide(p)), list, at)
+            put_leaf(data::phone_at(phones, places[texts::wide(p)]), list, at)
         }
         _ => Letters::From(at),
     }
@@ -115,6 +118,8 @@ pub fn spell(phones: &[u8], index: &[u8], model: &[u8], word: &[u8], list: &mut 
     requires { ⌜ (isTrees (now phones) (now index) (now model) ≡ true) × (length (now word) ≤ 47) × (length (now list) ≡ 1504) ⌝ }
     ensures { λ r. ⌜ Puts (letters (now (phones .entry)) (now (index .entry)) (now (model .entry)) (now (word .entry))) (now (list .entry)) 94 r (now (list .exit)) ⌝ }
 {
+    let mut places = [0u16; 256];
+    data::put_places(phones, &mut places);
     let room = padded(word);
     let end = word.len() + 8;
     let text = &room[..end];
@@ -125,7 +130,8 @@ pub fn spell(phones: &[u8], index: &[u8], model: &[u8], word: &[u8], list: &mut 
         if text[k] == 35 {
             return Letters::From(at);
         }
-        let Letters::From(first) = put_letter(phones, index, model, text, k, list, at) else {
+        let Letters::From(first) = put_letter(phones, &places, index, model, text, k, list, at)
+        else {
             return Letters::Damaged;
         };
         at = first;
