@@ -4,17 +4,18 @@ use Prim.Native.Nat.{ℕ, zero, suc, _+_, _-_, _*_, _≤_, _<_}
 use native.Mathlib.Nat.{not-suc-le-zero}
 use native.Mathlib.Omega.{arith}
 use mathlib.Core.Path.{_≡_, sym, ap, _∙_}
-use mathlib.Core.Bool.{true, _&&_}
-use mathlib.Core.List.{List, [], _∷_, _++_, append-assoc}
+use mathlib.Core.Bool.{Bool, true, _&&_}
+use mathlib.Core.List.{List, [], _∷_, _++_, map, append-assoc}
 use lib.Dec.{leb, ltb}
 use lib.ListN.{length, getD, take, drop, replicate, length-append, length-replicate}
 use lib.Seq.{drop-drop, drop-at, getD-drop, take-append-seam}
 use borrow.Author.Tests.{leb-true}
 use Rattle.texts.specs.Choice.{both-true}
-use Rattle.texts.specs.Lists.{every, every-at}
-use Rattle.texts.specs.Text.{ascii}
+use Rattle.texts.specs.Lists.{every, every-at, getD-map}
+use Rattle.texts.specs.Text.{ascii, same, agree}
 use Rattle.cells.specs.Cells.{text}
 use Rattle.addenda.specs.Addenda.{Addendum, addenda, noAddendum, padded, cells, encoded}
+use Rattle.addenda.specs.Find.{isMeant}
 use Rattle.addenda.specs.Rules.{phoneFits, fits, addenda-count, addenda-fit}
 
 -- a text with zeros behind it: the text, and how wide it is
@@ -91,6 +92,17 @@ module _ (r : Addendum) where
       ∙ ap (λ (b : List ℕ). text (drop (1 + 4 * i) b)) (drop-word (fit h .0))
       ∙ ap (λ (k : ℕ). text (drop k behind)) s
       ∙ text-cells (r .phones) zeros i (short h) l
+
+-- a row as the code keeps it has this word, and a tag that agrees
+unfoldable pub isMeantBy : List ℕ → ℕ → List ℕ → Bool
+isMeantBy word tag row = same (text (drop 1 row)) word && agree true (getD row 0 0) tag
+
+pub row-meant : (word : List ℕ) (tag n : ℕ) → n < 42 → isMeantBy word tag (getD (map encoded addenda) n []) ≡ isMeant word tag (getD addenda n noAddendum)
+unfolding isMeantBy isMeant
+row-meant word tag n h =
+    let r = getD addenda n noAddendum in
+    let k : n < length addenda = rw addenda-count h in
+    rw (getD-map encoded addenda n noAddendum [] k, row-word r, row-tag r)
 
 -- row n of the table fits
 module _ (n : ℕ) (h : n < 42) where

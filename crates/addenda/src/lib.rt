@@ -8,6 +8,7 @@ ghost use Rattle.texts.specs.Lists.{place};
 ghost use Rattle.cells.specs.Cells.{text, cellsOf};
 ghost use Rattle.addenda.specs.Addenda.{addenda, noAddendum, encoded};
 ghost use Rattle.addenda.specs.Find.{isMeant};
+ghost use Rattle.addenda.specs.Rows.{isMeantBy};
 ghost use Rattle.addenda.specs.Starts.{isStart};
 
 // A row: a tag, a length byte and six bytes for the word, a count, and as many cells of a length
@@ -74,14 +75,12 @@ fn text_at(row: &[u8], k: usize) -> &[u8]
     records::head(records::tail(cell, 1), n)
 }
 
-// Whether row n has this word and a tag that agrees.
-fn is_meant(n: usize, word: &[u8], tag: u8) -> bool
-    requires { ⌜ n < 42 ⌝ }
-    ensures { λ r. ⌜ r ≡ isMeant (now (word .entry)) tag (getD addenda n noAddendum) ⌝ }
+// Whether a row has this word and a tag that agrees.
+fn is_meant(row: &[u8], word: &[u8], tag: u8) -> bool
+    ensures { λ r. ⌜ r ≡ isMeantBy (now (word .entry)) tag (now (row .entry)) ⌝ }
 {
-    let row = addenda_row(n);
-    let same = texts::same(text_at(&row, 1), word);
-    texts::both(same, texts::agree(true, row[0], tag))
+    let same = texts::same(text_at(row, 1), word);
+    texts::both(same, texts::agree(true, records::byte_at(row, 0), tag))
 }
 
 // Whether a row may be this byte: none is a letter or a digit.
@@ -124,9 +123,10 @@ pub fn find(word: &[u8], tag: u8) -> usize
     if !may_be_row(word.len(), records::byte_at(word, 0)) {
         return 42;
     }
+    let table = ADDENDA;
     let mut n = 0;
     while n < 42 {
-        if is_meant(n, word, tag) {
+        if is_meant(&table[n], word, tag) {
             return n;
         }
         n += 1;

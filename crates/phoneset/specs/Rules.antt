@@ -1,16 +1,16 @@
 -- The rules of the table of phones, each one test that is computed over the whole table.
 -- Assumes nothing.
-use Prim.Native.Nat.{ℕ, _≤_, _<_}
+use Prim.Native.Nat.{ℕ, _-_, _<_}
+use native.Mathlib.Omega.{arith}
 use mathlib.Core.Path.{_≡_, refl}
 use mathlib.Core.Bool.{Bool, true, _&&_}
-use mathlib.Core.List.{List, map}
+use mathlib.Core.List.{List, [], _++_, map}
 use lib.Dec.{leb, eqb}
-use lib.ListN.{length, getD}
-use borrow.Author.Tests.{leb-true}
-use Rattle.texts.specs.Choice.{both-true}
-use Rattle.texts.specs.Lists.{every, some, every-at}
+use lib.ListN.{length, getD, take, drop, replicate, length-append}
+use lib.Seq.{take-append-seam}
+use Rattle.texts.specs.Lists.{every, some, getD-map}
 use Rattle.texts.specs.Text.{ascii, low, same, distinct}
-use Rattle.phoneset.specs.Phones.{Phone, phones, noPhone}
+use Rattle.phoneset.specs.Phones.{Phone, phones, noPhone, encoded}
 
 pub phone-count : length phones ≡ 50
 unfolding phones
@@ -29,11 +29,18 @@ pub phones-differ : distinct (map (λ (r : Phone). r .name) phones) ≡ true
 unfolding phones distinct some same
 phones-differ = refl
 
--- so a row that is read has a name of at most 4 bytes
-pub name-short : (n : ℕ) → n < 50 → length (getD phones n noPhone .name) ≤ 4
-name-short n h =
-    let k : n < length phones = rw phone-count h in
-    let r = getD phones n noPhone in
-    let f = both-true _ _ (every-at fits phones noPhone phones-fit n k) in
-    let g = both-true _ _ (f .0) in
-    leb-true (length (r .name)) 4 (both-true _ _ (g .0) .0)
+-- what the code reads of row n of its table
+abbrev pub row : ℕ → List ℕ
+row n = getD (map encoded phones) n []
+
+module _ (n : ℕ) (h : n < 50) where
+  row-at : row n ≡ encoded (getD phones n noPhone)
+  row-at = getD-map encoded phones n noPhone [] (rw phone-count h)
+
+  pub row-fits : getD (row n) 0 0 < length (row n)
+  unfolding encoded
+  row-fits = rw row-at (simp length-append (omega arith))
+
+  pub row-name : take (getD (row n) 0 0) (drop 1 (row n)) ≡ getD phones n noPhone .name
+  unfolding encoded
+  row-name = let r = getD phones n noPhone in rw row-at (take-append-seam (r .name) (replicate (4 - length (r .name)) 0 ++ r .features))

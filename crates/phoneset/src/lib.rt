@@ -2,7 +2,7 @@
 ghost use mathlib.Core.Path.{_≡_};
 ghost use mathlib.Core.List.{[], _∷_};
 ghost use Prim.Native.Nat.{_<_};
-ghost use lib.ListN.{length, getD};
+ghost use lib.ListN.{length, getD, take, drop};
 ghost use Rattle.texts.specs.Text.{same};
 ghost use Rattle.phoneset.specs.Phones.{phones, noPhone, encoded, rowOf, isVowel, isKnown};
 ghost use Rattle.phoneset.specs.Stress.{digits, bare, stress};
@@ -70,12 +70,11 @@ pub fn phone_row(n: usize) -> [u8; 13]
     PHONES[n]
 }
 
-// Whether row n is named so.
-fn is_named(n: usize, phone: &[u8]) -> bool
-    requires { ⌜ n < 50 ⌝ }
-    ensures { λ r. ⌜ r ≡ same (getD phones n noPhone .name) (now (phone .entry)) ⌝ }
+// Whether a row is named so.
+fn is_named(row: &[u8], phone: &[u8]) -> bool
+    requires { ⌜ getD (now row) 0 0 < length (now row) ⌝ }
+    ensures { λ r. ⌜ r ≡ same (take (getD (now (row .entry)) 0 0) (drop 1 (now (row .entry)))) (now (phone .entry)) ⌝ }
 {
-    let row = phone_row(n);
     let end = 1 + texts::wide(row[0]);
     texts::same(&row[1..end], phone)
 }
@@ -84,9 +83,10 @@ fn is_named(n: usize, phone: &[u8]) -> bool
 pub fn row_of(phone: &[u8]) -> usize
     ensures { λ r. ⌜ r ≡ rowOf (now (phone .entry)) ⌝ }
 {
+    let table = PHONES;
     let mut n = 0;
     while n < 50 {
-        if is_named(n, phone) {
+        if is_named(&table[n], phone) {
             return n;
         }
         n += 1;

@@ -1,21 +1,15 @@
--- `phoneset::is_named` meets its contract: the name cut out of the row is the quoted one. Assumes nothing.
-use Prim.Native.Nat.{ℕ, _-_}
-use mathlib.Core.Path.{_∙_, ap}
-use mathlib.Core.List.{List, [], _++_}
-use lib.ListN.{length, getD, replicate}
+-- `phoneset::is_named` meets its contract: the name stands behind its length byte. Assumes nothing.
+use Prim.Native.Nat.{ℕ, _+_, _-_}
+use mathlib.Core.Path.{_≡_, _∙_, ap}
+use lib.ListN.{getD, take, drop}
 use native.Mathlib.Omega.{arith}
-use Rattle.texts.specs.Text.{same, counted-length, counted-text}
-use Rattle.phoneset.specs.Phones.{phones, noPhone, encoded}
-use Rattle.phoneset.specs.Rules.{name-short}
+use Rattle.texts.specs.Text.{same}
 use borrow.Author.Needs.{needs}
 use Rattle.phoneset.proofs.is_named.Statement.{statement}
 use Rattle.phoneset.proofs.is_named.Tie as tie
 
-phone-row-requires : tie.Need-phone-row-requires
-phone-row-requires c κs = search needs
-
-array-read-wide : tie.Need-array-read-wide
-array-read-wide c = search needs
+shared-slice-read-wide : tie.Need-shared-slice-read-wide
+shared-slice-read-wide c = omega arith
 
 wide-requires : tie.Need-wide-requires
 wide-requires c κs = search needs
@@ -30,28 +24,23 @@ part-same-start : tie.Need-part-same-start
 part-same-start c = search needs
 
 part-same-end : tie.Need-part-same-end
-unfolding encoded
-part-same-end c =
-    let x = getD phones (c .before .before .before .before .args .n) noPhone in
-    let n = counted-length (c .before .before .phone-row .result) (x .name) (replicate (4 - length (x .name)) 0 ++ x .features) (c .before .wide .result) (c .before .before .phone-row .ensures) (c .before .wide .ensures .0) in
-    omega (arith, n, name-short (c .before .before .before .before .args .n) (c .before .before .before .before .pre))
+part-same-end c = omega arith
 
 same-requires : tie.Need-same-requires
 same-requires c κs = search needs
 
 returns : tie.Need-returns
-unfolding encoded
 returns c =
-    let x = getD phones (c .before .before .before .before .before .before .args .n) noPhone in
-    let e = counted-text (c .before .before .before .before .phone-row .result) (x .name) (replicate (4 - length (x .name)) 0 ++ x .features) (c .before .before .before .wide .result) (c .before .before .before .before .phone-row .ensures) (c .before .before .before .wide .ensures .0) in
-    c .same .ensures ∙ ap (λ (s : List ℕ). same s (c .before .before .before .before .before .before .args .phone .now)) e
+    let a = c .before .before .before .before .before .before .args in
+    let n = c .before .before .wide .result in
+    let e : 1 + n - 1 ≡ getD (a .row .now) 0 0 = omega arith in
+    c .same .ensures ∙ ap (λ (k : ℕ). same (take k (drop 1 (a .row .now))) (a .phone .now)) e
 
 pub is-named-spec : {M : Type 1} → statement M
 is-named-spec =
     tie.close
     (tie.spec
-    phone-row-requires
-    array-read-wide
+    shared-slice-read-wide
     wide-requires
     add-end
     sub-same
