@@ -43,8 +43,8 @@ table-count-requires c κs =
 
 walk-requires : tie.Need-walk-requires
 walk-requires c κs =
-    let a = c .before .before .before .before .before .before .before .before .before .before .before .before .before .args in
-    (search needs, trees-model (a .phones .now) (a .index .now) (a .model .now) (c .before .before .before .before .before .before .before .before .before .before .before .before .before .pre .0))
+    let a = c .before .before .before .before .before .before .before .before .before .before .before .before .before .before in
+    (search needs, trees-model (a .args .phones .now) (a .args .index .now) (a .args .model .now) (a .pre .0))
 
 enum-known-p : tie.Need-enum-known-p
 enum-known-p c = search needs
