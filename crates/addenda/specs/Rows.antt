@@ -97,12 +97,14 @@ module _ (r : Addendum) where
 unfoldable pub isMeantBy : List ℕ → ℕ → List ℕ → Bool
 isMeantBy word tag row = same (text (drop 1 row)) word && agree true (getD row 0 0) tag
 
-pub row-meant : (word : List ℕ) (tag n : ℕ) → n < 42 → isMeantBy word tag (getD (map encoded addenda) n []) ≡ isMeant word tag (getD addenda n noAddendum)
-unfolding isMeantBy isMeant
-row-meant word tag n h =
-    let r = getD addenda n noAddendum in
-    let k : n < length addenda = rw addenda-count h in
-    rw (getD-map encoded addenda n noAddendum [] k, row-word r, row-tag r)
+-- what the code reads of row n of its table
+module _ (table : List (List ℕ)) (e : table ≡ map encoded addenda) (n : ℕ) (h : n < 42) where
+  pub row-at : getD table n [] ≡ encoded (getD addenda n noAddendum)
+  row-at = rw e (getD-map encoded addenda n noAddendum [] (rw addenda-count h))
+
+  pub row-meant : (word : List ℕ) (tag : ℕ) → isMeantBy word tag (getD table n []) ≡ isMeant word tag (getD addenda n noAddendum)
+  unfolding isMeantBy isMeant
+  row-meant word tag = let r = getD addenda n noAddendum in rw (row-at, row-word r, row-tag r)
 
 -- row n of the table fits
 module _ (n : ℕ) (h : n < 42) where

@@ -1,7 +1,7 @@
 // The 42 addenda (01, Lookup): words that the compiled entries would get wrong.
 ghost use mathlib.Core.Path.{_≡_};
 ghost use mathlib.Core.Bool.{false};
-ghost use mathlib.Core.List.{_++_};
+ghost use mathlib.Core.List.{_++_, map};
 ghost use Prim.Native.Nat.{_*_, _≤_, _<_};
 ghost use lib.ListN.{length, getD, drop};
 ghost use Rattle.texts.specs.Lists.{place};
@@ -58,12 +58,20 @@ const ADDENDA: [[u8; 41]; 42] = [
     *b"0\x02_a\0\0\0\0\x01\x02ey\0\0\0\0\0\0\0\0\0\0\0\0\0\0\0\0\0\0\0\0\0\0\0\0\0\0\0\0\0",
 ];
 
+// The table.
+fn rows() -> [[u8; 41]; 42]
+    ensures { λ r. ⌜ r ≡ map encoded addenda ⌝ }
+{
+    ADDENDA
+}
+
 // Row n of the table.
 pub fn addenda_row(n: usize) -> [u8; 41]
     requires { ⌜ n < 42 ⌝ }
     ensures { λ r. ⌜ r ≡ encoded (getD addenda n noAddendum) ⌝ }
 {
-    ADDENDA[n]
+    let table = rows();
+    table[n]
 }
 
 // The text at k of a row, behind its length byte.
@@ -123,7 +131,7 @@ pub fn find(word: &[u8], tag: u8) -> usize
     if !may_be_row(word.len(), records::byte_at(word, 0)) {
         return 42;
     }
-    let table = ADDENDA;
+    let table = rows();
     let mut n = 0;
     while n < 42 {
         if is_meant(&table[n], word, tag) {

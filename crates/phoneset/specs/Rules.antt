@@ -30,17 +30,14 @@ unfolding phones distinct some same
 phones-differ = refl
 
 -- what the code reads of row n of its table
-abbrev pub row : ℕ → List ℕ
-row n = getD (map encoded phones) n []
+module _ (table : List (List ℕ)) (e : table ≡ map encoded phones) (n : ℕ) (h : n < 50) where
+  pub row-at : getD table n [] ≡ encoded (getD phones n noPhone)
+  row-at = rw e (getD-map encoded phones n noPhone [] (rw phone-count h))
 
-module _ (n : ℕ) (h : n < 50) where
-  row-at : row n ≡ encoded (getD phones n noPhone)
-  row-at = getD-map encoded phones n noPhone [] (rw phone-count h)
-
-  pub row-fits : getD (row n) 0 0 < length (row n)
+  pub row-fits : getD (getD table n []) 0 0 < length (getD table n [])
   unfolding encoded
   row-fits = rw row-at (simp length-append (omega arith))
 
-  pub row-name : take (getD (row n) 0 0) (drop 1 (row n)) ≡ getD phones n noPhone .name
+  pub row-name : take (getD (getD table n []) 0 0) (drop 1 (getD table n [])) ≡ getD phones n noPhone .name
   unfolding encoded
   row-name = let r = getD phones n noPhone in rw row-at (take-append-seam (r .name) (replicate (4 - length (r .name)) 0 ++ r .features))

@@ -1,6 +1,6 @@
 // The 50 phones and their eight features (01, Phones), what is a vowel, and the stress of a phone.
 ghost use mathlib.Core.Path.{_≡_};
-ghost use mathlib.Core.List.{[], _∷_};
+ghost use mathlib.Core.List.{[], _∷_, map};
 ghost use Prim.Native.Nat.{_<_};
 ghost use lib.ListN.{length, getD, take, drop};
 ghost use Rattle.texts.specs.Text.{same};
@@ -62,12 +62,20 @@ const PHONES: [[u8; 13]; 50] = [
     *b"\x04brth-000000-",
 ];
 
+// The table.
+fn rows() -> [[u8; 13]; 50]
+    ensures { λ r. ⌜ r ≡ map encoded phones ⌝ }
+{
+    PHONES
+}
+
 // Row n of the table.
 pub fn phone_row(n: usize) -> [u8; 13]
     requires { ⌜ n < 50 ⌝ }
     ensures { λ r. ⌜ r ≡ encoded (getD phones n noPhone) ⌝ }
 {
-    PHONES[n]
+    let table = rows();
+    table[n]
 }
 
 // Whether a row is named so.
@@ -83,7 +91,7 @@ fn is_named(row: &[u8], phone: &[u8]) -> bool
 pub fn row_of(phone: &[u8]) -> usize
     ensures { λ r. ⌜ r ≡ rowOf (now (phone .entry)) ⌝ }
 {
-    let table = PHONES;
+    let table = rows();
     let mut n = 0;
     while n < 50 {
         if is_named(&table[n], phone) {

@@ -3,7 +3,7 @@ use Rattle.addenda.specs.Rules.{addenda-count}
 use Rattle.addenda.specs.Find.{isMeant}
 use Rattle.addenda.specs.Rows.{row-meant}
 use Rattle.addenda.specs.Starts.{no-start}
-use Rattle.addenda.specs.Addenda.{addenda, noAddendum, encoded, padded, cells}
+use Rattle.addenda.specs.Addenda.{addenda, noAddendum}
 use Rattle.texts.specs.Lists.{place, place-turn, place-stop, place-end}
 use lib.ListN.{drop}
 use mathlib.Core.Path.{_≡_, sym, _∙_}
@@ -32,6 +32,9 @@ returns c =
     let h = c .before .may-be-row .ensures (not-true _ (c .if1 .taken)) in
     sym (no-start (a .word .now) (a .tag) (rw (c .before .before .byte-at .ensures) at h))
 
+rows-requires : tie.Need-rows-requires Inv-loop μ-loop
+rows-requires c κs = search needs
+
 loop-holds : tie.Need-loop-holds Inv-loop μ-loop
 loop-holds c = (omega arith, omega arith)
 
@@ -45,12 +48,12 @@ is-meant-requires : tie.Need-is-meant-requires Inv-loop μ-loop
 is-meant-requires c κs = search needs
 
 returns-2 : tie.Need-returns-2 Inv-loop μ-loop
-unfolding addenda encoded padded cells
 returns-2 c =
-    let a = c .before .before .before .before .before .before .before .before .before .before .args in
+    let a = c .before .before .before .before .before .before .before .before .before .before .before .args in
+    let t = c .before .before .before .before .before .before .rows in
     let n = c .before .before .before .before .before .loop .n in
     let h : n < 42 = omega arith in
-    let meant = sym (row-meant (a .word .now) (a .tag) n h) ∙ sym (c .before .is-meant .ensures) in
+    let meant = sym (row-meant (t .result) (t .ensures) n h (a .word .now) (a .tag)) ∙ sym (c .before .is-meant .ensures) in
     let e = place-stop (isMeant (a .word .now) (a .tag)) addenda n noAddendum (rw addenda-count h) (meant ∙ c .if2 .taken) in
     omega arith
 
@@ -61,18 +64,18 @@ loop-less : tie.Need-loop-less Inv-loop μ-loop
 loop-less c = omega arith
 
 loop-again : tie.Need-loop-again Inv-loop μ-loop
-unfolding addenda encoded padded cells
 loop-again c =
-    let a = c .before .before .before .before .before .before .before .before .before .before .args in
+    let a = c .before .before .before .before .before .before .before .before .before .before .before .args in
+    let t = c .before .before .before .before .before .before .rows in
     let n = c .before .before .before .before .before .loop .n in
     let h : n < 42 = omega arith in
-    let meant = sym (row-meant (a .word .now) (a .tag) n h) ∙ sym (c .before .is-meant .ensures) in
+    let meant = sym (row-meant (t .result) (t .ensures) n h (a .word .now) (a .tag)) ∙ sym (c .before .is-meant .ensures) in
     let e = place-turn (isMeant (a .word .now) (a .tag)) addenda n noAddendum (rw addenda-count h) (meant ∙ c .if2 .left) in
     (omega arith, omega arith)
 
 returns-3 : tie.Need-returns-3 Inv-loop μ-loop
 returns-3 c =
-    let a = c .before .before .before .before .before .before .args in
+    let a = c .before .before .before .before .before .before .before .args in
     let e = place-end (isMeant (a .word .now) (a .tag)) addenda (c .before .loop .n) (rw addenda-count (omega arith)) in
     omega arith
 
@@ -85,6 +88,7 @@ find-spec =
     byte-at-requires
     may-be-row-requires
     returns
+    rows-requires
     loop-holds
     mul-is-meant
     index-1-is-meant
