@@ -15,3 +15,4 @@ pub mod Found
 pub mod Fresh
 pub mod Placed
 pub mod Turns
+pub mod Marks

@@ -4,13 +4,14 @@ ghost use mathlib.Core.Bool.{true, false};
 ghost use mathlib.Core.List.{map};
 ghost use Prim.Native.Nat.{_+_, _*_, _/_, _≤_, _<_};
 ghost use lib.ListN.{length};
-ghost use Rattle.texts.specs.Lists.{every, some};
-ghost use Rattle.texts.specs.Text.{is};
+ghost use Rattle.texts.specs.Lists.{some};
 ghost use Rattle.records.specs.Records.{recordAt};
 ghost use Rattle.records.specs.Chain.{chain, endOf};
 ghost use Rattle.slots.specs.Slot.{entryOf};
 ghost use Rattle.answers.specs.Told.{toldDone};
+ghost use Rattle.store.specs.Marks.{markAt};
 ghost use Rattle.store.specs.Store.{next as nextOf, last, used as usedOf, entryAt, entries, isStoreLength, isWanted, sameKey, keysDiffer, walks as walksOf, isSound, newStore, newBytes};
+use crate::marks;
 use answers::Done;
 use answers::Refusal;
 
@@ -48,20 +49,6 @@ fn is_store_length(n: usize) -> bool
         return false;
     }
     n % 512 == 0
-}
-
-// Whether every byte is zero.
-fn are_zeros(s: &[u8]) -> bool
-    ensures { λ r. ⌜ r ≡ every (is 0) (now (s .entry)) ⌝ }
-{
-    let mut i = 0;
-    while i < s.len() {
-        if s[i] != 0 {
-            return false;
-        }
-        i += 1;
-    }
-    true
 }
 
 // Whether the entry in a slot has this word, and a tag that agrees.
@@ -140,11 +127,24 @@ fn has_key(store: &[u8], m: usize, p: usize, n: usize) -> bool
     false
 }
 
-// Whether no two of the n entries behind slot 0 have one key.
-fn keys_differ(store: &[u8], n: usize) -> bool
+// Whether one of the n slots behind p has the key of the entry in slot p, whose mark this is, where others are theirs.
+fn is_repeated(store: &[u8], p: usize, n: usize, mark: u16, others: &[u16]) -> bool
+    requires { ⌜ (p < 65536) × (mark ≡ markAt (now store) p) × (now others ≡ map (markAt (now store)) (chain (nextOf (now store)) n p)) ⌝ }
+    ensures { λ r. ⌜ r ≡ some (sameKey (entryAt (now (store .entry)) p)) (map (entryAt (now (store .entry))) (chain (nextOf (now (store .entry))) n p)) ⌝ }
+{
+    if !marks::has_mark(others, mark) {
+        return false;
+    }
+    has_key(store, p, p, n)
+}
+
+// Whether no two of the n entries behind slot 0 have one key, where these are their marks.
+fn are_apart(store: &[u8], n: usize, marks: &[u16]) -> bool
+    requires { ⌜ (length (now marks) < 65536) × (now marks ≡ map (markAt (now store)) (chain (nextOf (now store)) n 0)) ⌝ }
     ensures { λ r. ⌜ r ≡ keysDiffer (map (entryAt (now (store .entry))) (chain (nextOf (now (store .entry))) n 0)) ⌝ }
 {
     let mut p = 0;
+    let mut i = 0;
     let mut left = n;
     while 0 < left {
         p = next(store, p);
@@ -152,11 +152,22 @@ fn keys_differ(store: &[u8], n: usize) -> bool
             return true;
         }
         left -= 1;
-        if has_key(store, p, p, left) {
+        if is_repeated(store, p, left, marks[i], &marks[i + 1..]) {
             return false;
         }
+        i += 1;
     }
     true
+}
+
+// Whether no two of the n entries behind slot 0 have one key.
+fn keys_differ(store: &[u8], n: usize) -> bool
+    requires { ⌜ n ≤ 127 ⌝ }
+    ensures { λ r. ⌜ r ≡ keysDiffer (map (entryAt (now (store .entry))) (chain (nextOf (now (store .entry))) n 0)) ⌝ }
+{
+    let mut marks = [0u16; 127];
+    let count = marks::put_marks(&mut marks, store, n);
+    are_apart(store, n, &marks[0..count])
 }
 
 // Whether a store is sound.
@@ -170,7 +181,7 @@ pub fn is_sound(store: &[u8]) -> bool
     if store.len() / 512 <= n {
         return false;
     }
-    if !are_zeros(records::tail(slot(store, 0), 6)) {
+    if !records::are_zeros(records::tail(slot(store, 0), 6)) {
         return false;
     }
     if !walks(store, n) {

@@ -1,12 +1,13 @@
 -- `store::is_sound` meets its contract: the first clause of the definition that fails decides. Assumes nothing.
-use Prim.Native.Nat.{ℕ}
-use borrow.Author.Tests.{lt-ltb, le-ltb, eq-eqb, ne-eqb, not-true, not-false}
+use Prim.Native.Nat.{ℕ, _%_, _≤_}
+use borrow.Author.Tests.{lt-ltb, le-ltb, eq-eqb, ne-eqb, leb-true, not-true, not-false}
 use native.Mathlib.Omega.{arith}
 use mathlib.Core.Path.{_≡_, sym, ap, _∙_}
 use mathlib.Core.List.{List, map}
-use mathlib.Core.Bool.{true}
+use mathlib.Core.Bool.{true, _&&_}
 use lib.ListN.{length, drop}
-use lib.Dec.{ltb}
+use lib.Dec.{eqb, leb, ltb}
+use Rattle.texts.specs.Choice.{both-true}
 use Rattle.texts.specs.Text.{is}
 use Rattle.texts.specs.Lists.{every}
 use Rattle.records.specs.Chain.{chain, endOf}
@@ -15,6 +16,10 @@ use Rattle.store.specs.Store.{next, last, used, slots, entryAt, order, e
 use borrow.Author.Needs.{needs}
 use Rattle.store.proofs.sound.is_sound.Statement.{statement}
 use Rattle.store.proofs.sound.is_sound.Tie as tie
+
+store-small : (n : ℕ) → isStoreLength n ≡ true → n ≤ 65536
+unfolding isStoreLength
+store-small n h = leb-true n 65536 (both-true (leb 512 n) (leb n 65536) (both-true (leb 512 n && leb n 65536) (eqb (n % 512) 0) h .0) .1)
 
 fitting : (c : tie.Else1) → isStoreLength (length (c .before .before .before .args .store .now)) ≡ true
 fitting c = sym (c .before .is-store-length .ensures) ∙ not-false (c .before .is-store-length .result) (c .if1 .left)
@@ -86,7 +91,7 @@ returns-5 c =
     rw (fitting (c .before .before .before .before .before .before .before .before .before .before .before), roomy (c .before .before .before .before .before .before .before .before .before), sym (zeros (c .before .before .before .before .before .before)) ∙ not-false (c .before .before .before .before .before .before .are-zeros .result) (c .before .before .before .before .before .if3 .left), sym (walked (c .before .before .before .before)) ∙ not-false (c .before .before .before .before .walks .result) (c .before .before .before .if4 .left), e)
 
 keys-differ-requires : tie.Need-keys-differ-requires
-keys-differ-requires c κs = search needs
+keys-differ-requires c κs = let h = store-small (length (c .before .before .before .before .before .before .before .before .before .before .before .before .before .before .args .store .now)) (fitting (c .before .before .before .before .before .before .before .before .before .before .before)) in omega arith
 
 returns-6 : tie.Need-returns-6
 unfolding isSound entries order

@@ -1,70 +1,46 @@
--- `store::keys_differ` meets its contract: each entry passed differs from all behind it, so those left behind p decide. Assumes nothing.
-use Prim.Native.Nat.{_<_}
+-- `store::keys_differ` meets its contract: the marks that are written are those of the entries. Assumes nothing.
+use Prim.Native.Nat.{ℕ, _-_}
 use native.Mathlib.Omega.{arith}
-use mathlib.Core.Path.{_≡_, refl, sym, _∙_}
-use mathlib.Core.List.{map}
-use Rattle.records.specs.Chain.{chain}
-use Rattle.store.specs.Turns.{keys-turn, keys-hit, keys-stop, keys-end}
-use Rattle.store.specs.Store.{next, entryAt, keysDiffer}
+use mathlib.Core.Path.{_≡_, ap, _∙_}
+use lib.ListN.{take, length-take}
 use borrow.Author.Needs.{needs}
 use Rattle.store.proofs.sound.keys_differ.Statement.{statement}
 use Rattle.store.proofs.sound.keys_differ.Tie as tie
 
-abbrev Inv-loop : tie.InvT-loop
-Inv-loop store n p₀ left₀ p left =
-    (keysDiffer (map (entryAt store) (chain (next store) n 0)) ≡ keysDiffer (map (entryAt store) (chain (next store) left p)))
-    × (p < 65536)
+slice-aggregate-put-marks : tie.Need-slice-aggregate-put-marks
+slice-aggregate-put-marks c = search needs
 
-abbrev μ-loop : tie.MeasureT-loop
-μ-loop store n p₀ left₀ p left = left
+put-marks-requires : tie.Need-put-marks-requires
+put-marks-requires c κs = search needs
 
-loop-holds : tie.Need-loop-holds Inv-loop μ-loop
-loop-holds c = (refl, omega arith)
+sub-are-apart : tie.Need-sub-are-apart
+sub-are-apart c = search needs
 
-next-requires : tie.Need-next-requires Inv-loop μ-loop
-next-requires c κs = search needs
+part-are-apart-start : tie.Need-part-are-apart-start
+part-are-apart-start c = search needs
 
-returns : tie.Need-returns Inv-loop μ-loop
-returns c =
-    let b = c .before .before .before .before .before .args .store .now in
-    sym (c .before .before .before .loop .inv .0 ∙ keys-stop (next b) (entryAt b) (c .before .before .before .loop .left) (c .before .before .before .loop .p) (sym (c .before .next .ensures .0) ∙ c .if1 .taken))
+part-are-apart-end : tie.Need-part-are-apart-end
+part-are-apart-end c = search needs
 
-sub-left : tie.Need-sub-left Inv-loop μ-loop
-sub-left c = search needs
+are-apart-requires : tie.Need-are-apart-requires
+are-apart-requires c κs =
+    let r = c .before .before .before .put-marks .result in
+    let s = c .before .before .before .put-marks .last .0 in
+    let e : r - 0 ≡ r = omega arith in
+    let t = length-take (r - 0) s in
+    (omega (arith, t, c .before .before .before .put-marks .ensures .0, c .before .before .before .put-marks .kept .0), ap (λ (k : ℕ). take k s) e ∙ c .before .before .before .put-marks .ensures .1)
 
-has-key-requires : tie.Need-has-key-requires Inv-loop μ-loop
-has-key-requires c κs = search needs
-
-returns-2 : tie.Need-returns-2 Inv-loop μ-loop
-returns-2 c =
-    let b = c .before .before .before .before .before .before .before .args .store .now in
-    sym (c .before .before .before .before .before .loop .inv .0 ∙ keys-hit (next b) (entryAt b) (c .before .before .before .before .before .loop .left) (c .before .before .before .before .before .loop .p) (c .before .before .before .next .result) (omega arith) (c .before .before .before .next .ensures .0) (c .before .before .if1 .left) (sym (c .before .has-key .ensures) ∙ c .if2 .taken))
-
-loop-less : tie.Need-loop-less Inv-loop μ-loop
-loop-less c = omega arith
-
-loop-again : tie.Need-loop-again Inv-loop μ-loop
-loop-again c =
-    let b = c .before .before .before .before .before .before .before .args .store .now in
-    (c .before .before .before .before .before .loop .inv .0 ∙ keys-turn (next b) (entryAt b) (c .before .before .before .before .before .loop .left) (c .before .before .before .before .before .loop .p) (c .before .before .before .next .result) (omega arith) (c .before .before .before .next .ensures .0) (c .before .before .if1 .left) (sym (c .before .has-key .ensures) ∙ c .if2 .left), c .before .before .before .next .ensures .1)
-
-returns-3 : tie.Need-returns-3 Inv-loop μ-loop
-returns-3 c =
-    let b = c .before .before .before .args .store .now in
-    sym (c .before .loop .inv .0 ∙ keys-end (next b) (entryAt b) (c .before .loop .left) (c .before .loop .p) (omega arith))
+returns : tie.Need-returns
+returns c = search needs
 
 pub keys-differ-spec : {M : Type 1} → statement M
 keys-differ-spec =
     tie.close
     (tie.spec
-    Inv-loop
-    μ-loop
-    loop-holds
-    next-requires
-    returns
-    sub-left
-    has-key-requires
-    returns-2
-    loop-less
-    loop-again
-    returns-3)
+    slice-aggregate-put-marks
+    put-marks-requires
+    sub-are-apart
+    part-are-apart-start
+    part-are-apart-end
+    are-apart-requires
+    returns)
