@@ -10,7 +10,6 @@ pub const PASSES: &str = "--passes";
 
 /// Instructions a call of a side of a row.
 pub fn instructions(tables: &Path, row: &str, side: usize) -> Result<f64, String> {
-    // one pass to warm up is counted too, so that it is the same with any number of them
     let passes = 2;
     let counts = env::temp_dir().join(format!("bench-{}-{side}.callgrind", std::process::id()));
     let driver = env::current_exe().map_err(|e| e.to_string())?;

@@ -1,6 +1,6 @@
 //! The library's side of each row. It gets the sections at each call.
 
-use crate::measure::Side;
+use crate::measure::{Side, AGAIN};
 use crate::ours;
 use crate::stage::{self, Entry, LIST};
 use crate::tables::Tables;
@@ -155,7 +155,7 @@ pub struct PhoneString {
 
 impl Side for PhoneString {
     fn calls(&self) -> usize {
-        1
+        AGAIN
     }
 
     fn call(&mut self, _: usize) {
@@ -169,7 +169,7 @@ pub struct CheckLexicon {
 
 impl Side for CheckLexicon {
     fn calls(&self) -> usize {
-        1
+        AGAIN
     }
 
     fn call(&mut self, _: usize) {
@@ -190,7 +190,7 @@ pub struct Decide {
 
 impl Side for Decide {
     fn calls(&self) -> usize {
-        1
+        AGAIN
     }
 
     fn call(&mut self, _: usize) {

@@ -1,5 +1,7 @@
 //! Times the library beside the original, in one process, on the same words.
 
+#[cfg(feature = "original")]
+mod agreement;
 mod count;
 mod library;
 mod measure;
@@ -99,6 +101,10 @@ fn run(asked: &Asked) -> Result<(), String> {
     if let Some((side, passes)) = asked.passes {
         return make_passes(plans[0].row(tables), side, passes);
     }
+    #[cfg(feature = "original")]
+    if let Some(difference) = agreement::difference(tables) {
+        return Err(difference);
+    }
     let table = Table {
         markdown: asked.markdown,
         instructions: asked.instructions,
@@ -155,8 +161,8 @@ impl Table {
             false => format!("{} {}", grouped(*value), row.unit),
         };
         let ratio = match (values, self.instructions) {
-            ([ours, rust], false) => format!("{:.2}", ours / rust),
-            ([ours, rust], true) => format!("{:.2}", rust / ours),
+            ([ours, rust], false) => two_digits(ours / rust),
+            ([ours, rust], true) => two_digits(rust / ours),
             _ => "".into(),
         };
         let rust = values.get(1).map(shown).unwrap_or_default();
@@ -169,6 +175,15 @@ impl Table {
             true => println!("| {name} | {ours} | {rust} | {ratio} |"),
             false => println!("{name:44} {ours:>26} {rust:>20} {ratio:>13}"),
         }
+    }
+}
+
+/// A ratio to two digits.
+fn two_digits(ratio: f64) -> String {
+    match ratio {
+        r if r < 0.01 => format!("{r:.4}"),
+        r if r < 0.1 => format!("{r:.3}"),
+        r => format!("{r:.2}"),
     }
 }
 

@@ -1,6 +1,30 @@
-//! Timing: passes of both sides in turn, and the median over some rounds.
+//! Timing: passes of both sides in turn, and the median over some rounds. The clock is the thread's own processor
+//! time, so that a busy machine disturbs less.
 
 use std::time::{Duration, Instant};
+
+#[repr(C)]
+struct Timespec {
+    seconds: i64,
+    nanoseconds: i64,
+}
+
+extern "C" {
+    fn clock_gettime(clock: i32, time: *mut Timespec) -> i32;
+}
+
+/// The processor time that this thread has taken.
+fn taken() -> Duration {
+    const THREAD: i32 = 3;
+    let mut time = Timespec {
+        seconds: 0,
+        nanoseconds: 0,
+    };
+    // SAFETY: the pointer is to a timespec of 64-bit Linux.
+    let failed = unsafe { clock_gettime(THREAD, &mut time) };
+    assert!(failed == 0, "there is no clock of the thread's time");
+    Duration::new(time.seconds as u64, time.nanoseconds as u32)
+}
 
 /// One side of a row.
 pub trait Side {
@@ -11,6 +35,9 @@ pub trait Side {
     /// Makes call i of a pass.
     fn call(&mut self, i: usize);
 }
+
+/// Calls a pass where all are the same.
+pub const AGAIN: usize = 32;
 
 const ROUNDS: usize = 15;
 
@@ -33,9 +60,9 @@ struct Taken {
 impl Taken {
     fn add_pass(&mut self, side: &mut dyn Side) {
         side.prepare();
-        let start = Instant::now();
+        let start = taken();
         measured_pass(side);
-        self.time += start.elapsed();
+        self.time += taken() - start;
         self.calls += side.calls();
     }
 

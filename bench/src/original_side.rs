@@ -1,6 +1,6 @@
 //! The original's side of each row. It has parsed its tables before; the words are handed over as it takes them.
 
-use crate::measure::Side;
+use crate::measure::{Side, AGAIN};
 use crate::stage::Entry;
 use crate::tables::{Tables, Word};
 use original::language::Language;
@@ -163,7 +163,7 @@ impl Side for AddFirst {
 }
 
 /// Utterances at a time.
-const UTTERANCES: usize = 8;
+const UTTERANCES: usize = 12;
 
 /// Says a word in an utterance in which some were said before; a pass has an utterance for each word.
 pub struct SayWord {
@@ -184,7 +184,7 @@ impl Side for SayWord {
         self.utterances.clear();
         for i in 0..UTTERANCES {
             let word = &self.tables.words[(self.first + i) % self.tables.words.len()];
-            let mut utterance = said(self.tables, &self.language, self.before);
+            let mut utterance = said(&self.language, self.tables.round(self.before));
             // the words so far leave their relation, so that one word is said
             let words = utterance.create_relation("Word");
             append(&mut utterance, words, word);
@@ -204,7 +204,7 @@ pub struct PhoneString {
 
 impl Side for PhoneString {
     fn calls(&self) -> usize {
-        1
+        AGAIN
     }
 
     fn call(&mut self, _: usize) {
@@ -212,14 +212,16 @@ impl Side for PhoneString {
     }
 }
 
-/// An utterance of the first so many words.
-pub fn said(tables: &Tables, language: &Language, count: usize) -> Utterance {
+/// An utterance of some words.
+pub fn said<'a>(language: &Language, wanted: impl Iterator<Item = &'a Word>) -> Utterance {
     let mut utterance = Utterance::new();
     let words = utterance.create_relation("Word");
-    for word in tables.words.iter().cycle().take(count) {
+    let mut any = false;
+    for word in wanted {
         append(&mut utterance, words, word);
+        any = true;
     }
-    if count > 0 {
+    if any {
         probe::insert_pronunciations(language, &mut utterance);
     }
     utterance

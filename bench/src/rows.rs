@@ -220,7 +220,7 @@ fn phone_string(tables: &'static Tables, sheet: Fill) -> Sides {
     });
     #[cfg(feature = "original")]
     let sides = sides.beside(rust::PhoneString {
-        utterance: rust::said(tables, &rust::language(tables), words),
+        utterance: rust::said(&rust::language(tables), tables.round(words)),
     });
     sides
 }

@@ -66,8 +66,8 @@ fn empty_store() -> Vec<u8> {
     store
 }
 
-/// The entries of a store that is so full: every fourth of the words asked about, then others. Their phones are the
-/// words' own; a full store is full of long entries too, as each has its word's phones twice, up to 24.
+/// The entries of a store that is so full: every fourth of the words asked about, then these with letters behind them.
+/// Their phones are those of the word, twice, up to 24.
 pub fn entries(tables: &Tables, fill: Fill) -> Vec<Entry> {
     let count = match fill {
         Fill::Empty => 0,
@@ -146,7 +146,7 @@ pub fn words_on_sheet(tables: &Tables, fill: Fill) -> usize {
 /// A sheet of the first so many words.
 pub fn sheet(tables: &Tables, count: usize) -> Vec<u8> {
     let mut sheet = empty_sheet();
-    for word in tables.words.iter().cycle().take(count) {
+    for word in tables.round(count) {
         say(tables, &mut sheet, word);
     }
     sheet

@@ -56,6 +56,11 @@ impl Tables {
         [&self.lts[0], &self.lts[1], &self.lts[2]]
     }
 
+    /// The first so many words, over again where they are too few.
+    pub fn round(&self, count: usize) -> impl Iterator<Item = &Word> {
+        self.words.iter().cycle().take(count)
+    }
+
     /// How many compiled entries there are.
     pub fn entries(&self) -> usize {
         let count = self.lex[1][..4].try_into();
@@ -77,8 +82,8 @@ impl Tables {
         words.into_iter().collect()
     }
 
-    /// Half of the words are compiled, spread evenly; a fifteenth are of the addenda; the others, in no source, are the
-    /// front of one compiled word and the back of another.
+    /// Of fifteen words eight are compiled, from all over the lexicon, one is of the addenda, and six, in no source, are
+    /// the front of one compiled word and the back of another.
     fn choose(&self) -> Vec<Word> {
         const ADDENDA: [&str; 4] = ["in", "email", "@", "doesnt"];
         let compiled = self.compiled();
