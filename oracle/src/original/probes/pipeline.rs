@@ -8,3 +8,8 @@ pub fn say(lang: &Language, utt: &mut Utterance) {
     super::tag_parts_of_speech(lang, utt);
     super::insert_pronunciations(lang, utt);
 }
+
+/// Says words that have their tags.
+pub fn insert_pronunciations(lang: &Language, utt: &mut Utterance) {
+    super::insert_pronunciations(lang, utt);
+}

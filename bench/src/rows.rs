@@ -1,0 +1,242 @@
+//! The rows: what is asked, and both sides of it.
+
+use crate::library;
+use crate::measure::Side;
+#[cfg(feature = "original")]
+use crate::original_side as rust;
+use crate::stage::{self, Entry, Fill, LIST};
+use crate::tables::Tables;
+
+/// A question.
+pub struct Row {
+    pub name: String,
+    /// What is counted, and how many of them a call has.
+    pub unit: &'static str,
+    pub units: usize,
+    /// Ours, then the original's where there is one.
+    pub sides: Vec<Box<dyn Side>>,
+}
+
+/// A row before its sides are made, which only some runs need.
+pub struct Plan {
+    pub name: String,
+    make: Box<dyn Fn(&'static Tables) -> Row>,
+}
+
+impl Plan {
+    pub fn row(&self, tables: &'static Tables) -> Row {
+        (self.make)(tables)
+    }
+}
+
+const FILLS: [(Fill, &str); 3] = [
+    (Fill::Empty, "empty"),
+    (Fill::Half, "half-full"),
+    (Fill::Full, "full"),
+];
+
+/// All rows.
+pub fn all() -> Vec<Plan> {
+    let mut plans = vec![];
+    let mut plan = |name: String, unit, sides: Box<dyn Fn(&'static Tables) -> Sides>| {
+        let row_name = name.clone();
+        let make = Box::new(move |tables: &'static Tables| {
+            let Sides { units, sides } = sides(tables);
+            Row {
+                name: row_name.clone(),
+                unit,
+                units,
+                sides,
+            }
+        });
+        plans.push(Plan { name, make });
+    };
+    plan("predict".into(), "words", Box::new(predict));
+    plan("syllabify".into(), "words", Box::new(syllabify));
+    plan("is_sayable".into(), "words", Box::new(is_sayable));
+    for (fill, full) in FILLS {
+        let name = format!("lookup, {full} store");
+        plan(name, "words", Box::new(move |t| lookup(t, fill)));
+    }
+    for (fill, full) in FILLS {
+        let name = format!("add_entry, {full} store");
+        plan(name, "entries", Box::new(move |t| add_entry(t, fill)));
+    }
+    for (store, store_full) in [FILLS[0], FILLS[2]] {
+        for (sheet, full) in FILLS {
+            let name = format!("say_word, {full} sheet, {store_full} store");
+            plan(name, "words", Box::new(move |t| say_word(t, sheet, store)));
+        }
+    }
+    for (sheet, full) in FILLS {
+        let name = format!("phone_string, {full} sheet");
+        plan(name, "strings", Box::new(move |t| phone_string(t, sheet)));
+    }
+    plan("check_lexicon".into(), "entries", Box::new(check_lexicon));
+    for (fill, full) in [FILLS[0], FILLS[2]] {
+        let name = format!("soundness alone, {full} store");
+        plan(name, "calls", Box::new(move |t| decide(t, fill, None)));
+    }
+    for (fill, full) in [FILLS[0], FILLS[2]] {
+        let name = format!("soundness alone, {full} sheet and empty store");
+        let sides = move |t| decide(t, Fill::Empty, Some(fill));
+        plan(name, "calls", Box::new(sides));
+    }
+    plans
+}
+
+/// The sides of a row, and how many units a call has.
+struct Sides {
+    units: usize,
+    sides: Vec<Box<dyn Side>>,
+}
+
+impl Sides {
+    fn ours(side: impl Side + 'static) -> Sides {
+        Sides {
+            units: 1,
+            sides: vec![Box::new(side)],
+        }
+    }
+
+    #[cfg(feature = "original")]
+    fn beside(mut self, side: impl Side + 'static) -> Sides {
+        self.sides.push(Box::new(side));
+        self
+    }
+}
+
+fn predict(tables: &'static Tables) -> Sides {
+    let sides = Sides::ours(library::Predict {
+        tables,
+        out: [0; LIST],
+    });
+    #[cfg(feature = "original")]
+    let sides = sides.beside(rust::Predict {
+        tables,
+        language: rust::language(tables),
+    });
+    sides
+}
+
+/// The bare phones of each word.
+fn syllabify(tables: &'static Tables) -> Sides {
+    let bare = |word| -> Vec<String> {
+        let phones = stage::pronounced(tables, word);
+        phones.iter().map(|phone| stage::bare(phone)).collect()
+    };
+    let lists: Vec<Vec<String>> = tables.words.iter().map(bare).collect();
+    let sides = Sides::ours(library::Syllabify {
+        lists: lists.iter().map(|list| stage::cells(list)).collect(),
+        marks: [0; 96],
+    });
+    #[cfg(feature = "original")]
+    let sides = sides.beside(rust::Syllabify {
+        lists: lists.iter().map(|list| rust::texts(list)).collect(),
+    });
+    sides
+}
+
+fn is_sayable(tables: &'static Tables) -> Sides {
+    let sides = Sides::ours(library::IsSayable { tables });
+    #[cfg(feature = "original")]
+    let sides = sides.beside(rust::IsSayable {
+        tables,
+        language: rust::language(tables),
+    });
+    sides
+}
+
+fn lookup(tables: &'static Tables, fill: Fill) -> Sides {
+    let entries = stage::entries(tables, fill);
+    let sides = Sides::ours(library::Lookup {
+        tables,
+        store: stage::store(tables, &entries),
+        out: [0; LIST],
+    });
+    #[cfg(feature = "original")]
+    let sides = sides.beside(rust::Lookup {
+        tables,
+        language: rust::with_entries(&rust::language(tables), &entries),
+    });
+    sides
+}
+
+/// To an empty store the first entry, else an entry of a known key.
+fn add_entry(tables: &'static Tables, fill: Fill) -> Sides {
+    let entries = stage::entries(tables, fill);
+    let adds: Vec<Entry> = match fill {
+        Fill::Empty => stage::entries(tables, Fill::Half),
+        _ => entries.clone(),
+    };
+    let with_cells = |entry: &Entry| (entry.clone(), stage::cells(&entry.phones));
+    let sides = Sides::ours(library::AddEntry {
+        tables,
+        store: stage::store(tables, &entries),
+        empty: fill == Fill::Empty,
+        entries: adds.iter().map(with_cells).collect(),
+    });
+    #[cfg(feature = "original")]
+    let sides = {
+        let with_texts = |entry: &Entry| (entry.clone(), rust::texts(&entry.phones));
+        let language = rust::with_entries(&rust::language(tables), &entries);
+        let entries = adds.iter().map(with_texts).collect();
+        match fill {
+            Fill::Empty => sides.beside(rust::AddFirst {
+                language,
+                entries,
+                lexicons: vec![],
+            }),
+            _ => sides.beside(rust::Replace { language, entries }),
+        }
+    };
+    sides
+}
+
+fn say_word(tables: &'static Tables, sheet: Fill, store: Fill) -> Sides {
+    let entries = stage::entries(tables, store);
+    let before = stage::words_on_sheet(tables, sheet);
+    let sides = Sides::ours(library::SayWord::new(
+        tables,
+        stage::store(tables, &entries),
+        stage::sheet(tables, before),
+    ));
+    #[cfg(feature = "original")]
+    let sides = sides.beside(rust::SayWord {
+        tables,
+        language: rust::with_entries(&rust::language(tables), &entries),
+        before,
+        first: 0,
+        utterances: vec![],
+    });
+    sides
+}
+
+fn phone_string(tables: &'static Tables, sheet: Fill) -> Sides {
+    let words = stage::words_on_sheet(tables, sheet);
+    let sides = Sides::ours(library::PhoneString {
+        sheet: stage::sheet(tables, words),
+        out: vec![0; 65_536],
+    });
+    #[cfg(feature = "original")]
+    let sides = sides.beside(rust::PhoneString {
+        utterance: rust::said(&rust::language(tables), tables.round(words)),
+    });
+    sides
+}
+
+/// The original has no such call.
+fn check_lexicon(tables: &'static Tables) -> Sides {
+    let mut sides = Sides::ours(library::CheckLexicon { tables });
+    sides.units = tables.entries();
+    sides
+}
+
+fn decide(tables: &'static Tables, store: Fill, sheet: Option<Fill>) -> Sides {
+    Sides::ours(library::Decide {
+        tables,
+        store: stage::store(tables, &stage::entries(tables, store)),
+        sheet: sheet.map(|fill| stage::sheet(tables, stage::words_on_sheet(tables, fill))),
+        out: [0; LIST],
+    })
+}

@@ -1,0 +1,180 @@
+//! Stores and sheets that are empty, half-full and full, written by the library itself.
+
+use crate::cells::{cell, text, CELL};
+use crate::ours;
+use crate::tables::{Tables, Word};
+
+/// The largest store that 01 accepts, and the largest sheet.
+const LARGEST: usize = 65_536;
+const SLOT: usize = 512;
+const ITEM: usize = 64;
+/// Room for the longest phone list.
+pub const LIST: usize = 96 * CELL;
+
+/// How full a store or a sheet is.
+#[derive(Clone, Copy, PartialEq)]
+pub enum Fill {
+    Empty,
+    Half,
+    Full,
+}
+
+/// An entry of the store.
+#[derive(Clone)]
+pub struct Entry {
+    pub word: String,
+    pub tag: &'static str,
+    pub phones: Vec<String>,
+}
+
+/// A phone list in cells.
+pub fn cells(phones: &[String]) -> Vec<u8> {
+    phones.iter().flat_map(|p| cell(p.as_bytes())).collect()
+}
+
+/// The phones of a word: looked up with an empty store, else predicted.
+pub fn pronounced(tables: &Tables, word: &Word) -> Vec<String> {
+    let mut out = [0; LIST];
+    let store = empty_store();
+    let (text, tag) = (word.text.as_bytes(), word.tag.as_bytes());
+    let mut answer = ours::lookup(tables.lex(), &store, text, tag, &mut out);
+    if answer.refusal == 0 && answer.kind == 0 {
+        let [phones, index, model] = tables.lts();
+        answer = ours::predict(phones, index, model, text, &mut out);
+    }
+    assert!(answer.refusal == 0, "{:?} is refused", word.text);
+    phones_of(&out[..CELL * answer.value as usize])
+}
+
+/// The phones of a list of cells.
+pub fn phones_of(list: &[u8]) -> Vec<String> {
+    let phone = |bytes: &[u8]| {
+        let bytes: &[u8; CELL] = bytes.try_into().expect("a chunk is a cell");
+        String::from_utf8(text(bytes).to_vec()).expect("phones are ASCII")
+    };
+    list.chunks_exact(CELL).map(phone).collect()
+}
+
+/// A phone without its stress.
+pub fn bare(phone: &str) -> String {
+    phone.strip_suffix(['0', '1']).unwrap_or(phone).to_string()
+}
+
+fn empty_store() -> Vec<u8> {
+    let mut store = vec![0; LARGEST];
+    ours::new_store(&mut store);
+    store
+}
+
+/// The entries of a store that is so full: every fourth of the words asked about, then these with letters behind them.
+/// Their phones are those of the word, twice, up to 24.
+pub fn entries(tables: &Tables, fill: Fill) -> Vec<Entry> {
+    let count = match fill {
+        Fill::Empty => 0,
+        Fill::Half => 64,
+        Fill::Full => LARGEST / SLOT - 1,
+    };
+    let asked = tables.words.iter().step_by(4);
+    let known = |phone: &String| is_known(tables, phone);
+    let entry = |(i, word): (usize, &Word)| {
+        let mut phones = pronounced(tables, word);
+        phones.retain(known);
+        phones.extend(phones.clone());
+        phones.truncate(24);
+        let behind = ["", "x", "zed"][i * 4 / tables.words.len() % 3];
+        Entry {
+            word: format!("{}{behind}", word.text),
+            tag: ["0", "n", "v"][i * 4 / tables.words.len() / 3 % 3],
+            phones,
+        }
+    };
+    let mut all: Vec<Entry> = asked.cycle().enumerate().map(entry).take(240).collect();
+    let mut keys = std::collections::BTreeSet::new();
+    all.retain(|entry| keys.insert((entry.word.clone(), entry.tag)));
+    all.truncate(count);
+    assert!(
+        all.len() == count,
+        "the words are too few for {count} entries"
+    );
+    all
+}
+
+/// Whether a phone may be added.
+fn is_known(tables: &Tables, phone: &str) -> bool {
+    let mut store = vec![0; 2 * SLOT];
+    let list = cell(phone.as_bytes());
+    ours::add_entry(&tables.lex[0], &mut store, b"a", b"", &list).refusal == 0
+}
+
+/// A store with these entries.
+pub fn store(tables: &Tables, entries: &[Entry]) -> Vec<u8> {
+    let mut store = empty_store();
+    for entry in entries {
+        let (word, tag) = (entry.word.as_bytes(), entry.tag.as_bytes());
+        let answer = ours::add_entry(&tables.lex[0], &mut store, word, tag, &cells(&entry.phones));
+        assert!(answer.refusal == 0, "{:?} is not added", entry.word);
+    }
+    store
+}
+
+/// How many of the words, one behind the other and over again, fill a sheet so far. A full one has room for any of the
+/// words, and not for the longest twice.
+pub fn words_on_sheet(tables: &Tables, fill: Fill) -> usize {
+    let most = LARGEST / ITEM - 1;
+    let need = |word: &Word| {
+        let mut sheet = empty_sheet();
+        say(tables, &mut sheet, word);
+        used(&sheet)
+    };
+    let needs: Vec<usize> = tables.words.iter().map(need).collect();
+    let longest = needs.iter().max().expect("there are words");
+    let wanted = match fill {
+        Fill::Empty => 0,
+        Fill::Half => most / 2,
+        Fill::Full => most + 1 - 2 * longest,
+    };
+    let mut used = 0;
+    let mut needs = needs.iter().cycle();
+    let mut said = 0;
+    while used < wanted {
+        used += needs.next().expect("the words go round");
+        said += 1;
+    }
+    said
+}
+
+/// A sheet of the first so many words.
+pub fn sheet(tables: &Tables, count: usize) -> Vec<u8> {
+    let mut sheet = empty_sheet();
+    for word in tables.round(count) {
+        say(tables, &mut sheet, word);
+    }
+    sheet
+}
+
+fn empty_sheet() -> Vec<u8> {
+    let mut sheet = vec![0; LARGEST];
+    ours::new_sheet(&mut sheet);
+    sheet
+}
+
+fn say(tables: &Tables, sheet: &mut [u8], word: &Word) {
+    let (text, tag) = (word.text.as_bytes(), word.tag.as_bytes());
+    let store = &empty_store()[..SLOT];
+    let answer = ours::say_word(tables.lex(), tables.lts(), store, sheet, text, tag);
+    assert!(answer.refusal == 0, "{:?} is not said", word.text);
+}
+
+/// How many items a sheet uses.
+pub fn used(sheet: &[u8]) -> usize {
+    number(sheet, 8)
+}
+
+/// The parts of a sheet that saying a word alters, but for the items it takes: item 0, the last word and the last phone.
+pub fn patched(sheet: &[u8]) -> [usize; 3] {
+    [0, ITEM * number(sheet, 6), ITEM * number(sheet, 10)]
+}
+
+fn number(bytes: &[u8], at: usize) -> usize {
+    usize::from(u16::from_le_bytes([bytes[at], bytes[at + 1]]))
+}
