@@ -24,6 +24,7 @@ fn check_machine(folder: &[u8], name: &[u8]) -> Reason {
 fn check_entries(phones: &[u8], index: &[u8], dat: &[u8]) -> Reason {
     let table = forms::check_table(b"lex.phones", phones);
     let held = forms::check_index(index);
+    forms::tell_data(dat);
     if !table {
         return Reason::Form;
     }

@@ -104,6 +104,11 @@ pub fn check_index(s: &[u8]) -> bool {
     false
 }
 
+// lex.data, which any bytes may be
+pub fn tell_data(s: &[u8]) {
+    tell_held(b"lex.data", s.len(), b"bytes");
+}
+
 pub fn check_starts(s: &[u8]) -> bool {
     if data::is_lts_index(s) {
         tell_held(b"lts.index", 26, b"letters");

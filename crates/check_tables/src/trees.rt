@@ -204,10 +204,10 @@ fn tell_fault(fault: Fault) {
 fn tell_way(i: usize, way: Way)
     requires { ⌜ i < 26 ⌝ }
 {
-    console::write(b"letters: in the tree of ");
+    console::write(b"letters: in the tree of \"");
     let letter = [97 + (i as u8)];
     console::write(&letter);
-    console::write(b" node ");
+    console::write(b"\" node ");
     console::write_number(way.node as usize);
     let fault = way.fault;
     tell_fault(fault);

@@ -4,13 +4,22 @@ use crate::word;
 use answers::Lines;
 use libc::STDIN_FILENO;
 
+// Line 0 is the text as a whole.
+fn tell_place(line: usize) {
+    if line == 0 {
+        console::write(b"entries are refused: ");
+    } else {
+        console::write(b"entries: line ");
+        console::write_number(line);
+        console::write(b" is refused: ");
+    }
+}
+
 // What came of a text of entries; whether it was taken.
 fn tell_lines(taken: Lines) -> bool {
     match taken {
         Lines::Refused(r, line) => {
-            console::write(b"entries: line ");
-            console::write_number(line);
-            console::write(b" is refused: ");
+            tell_place(line);
             console::tell_refusal(r);
             false
         }

@@ -19,6 +19,9 @@ check-table-requires c κs = search needs
 check-index-requires : tie.Need-check-index-requires
 check-index-requires c κs = search needs
 
+tell-data-requires : tie.Need-tell-data-requires
+tell-data-requires c κs = search needs
+
 returns : tie.Need-returns
 returns c = search needs
 
@@ -26,7 +29,7 @@ returns-2 : tie.Need-returns-2
 returns-2 c = search needs
 
 check-requires : tie.Need-check-requires
-check-requires c κs = sym (c .before .before .before .check-table .ensures) ∙ not-false (c .before .before .before .check-table .result) (c .before .if1 .left)
+check-requires c κs = sym (c .before .before .before .before .check-table .ensures) ∙ not-false (c .before .before .before .before .check-table .result) (c .before .if1 .left)
 
 returns-3 : tie.Need-returns-3
 returns-3 c = search needs
@@ -38,6 +41,7 @@ check-entries-spec =
     slice-aggregate-check-table
     check-table-requires
     check-index-requires
+    tell-data-requires
     returns
     returns-2
     check-requires
