@@ -30,9 +30,12 @@ pub fn count(s: &[u8]) -> usize
     records::u32_at(s, 0) as usize
 }
 
-// lex.phones and lts.phones. Their bytes are tested once, from the first string to the end of the last.
-pub fn is_phone_table(s: &[u8]) -> bool
+// Whether s is a phone table (lex.phones, lts.phones); the places of its phones, if it is one. Its bytes are tested
+// once, from the first string to the end of the last.
+pub fn read_table(s: &[u8], places: &mut [u16]) -> bool
+    requires { ⌜ length (now places) ≡ 256 ⌝ }
     ensures { λ r. ⌜ r ≡ isPhoneTable (now (s .entry)) ⌝ }
+    ensures { λ _. ⌜ (isPhoneTable (now (s .entry)) ≡ true → Placed (now (s .entry)) (now (places .exit))) ⌝ }
 {
     let Number::Is(n, start) = reader::number_from(s, 0) else {
         return false;
@@ -40,16 +43,25 @@ pub fn is_phone_table(s: &[u8]) -> bool
     if 256 < n {
         return false;
     }
-    let mut left = n;
+    let mut i = 0;
     let mut at = start;
-    while 0 < left {
+    while i < n {
         let Text::At(_, to) = reader::string_from(s, at) else {
             return false;
         };
+        places[i] = at as u16;
         at = to;
-        left -= 1;
+        i += 1;
     }
     texts::is_ascii(&s[4..at])
+}
+
+// The same, where nobody asks for the places.
+pub fn is_phone_table(s: &[u8]) -> bool
+    ensures { λ r. ⌜ r ≡ isPhoneTable (now (s .entry)) ⌝ }
+{
+    let mut places = [0u16; 256];
+    read_table(s, &mut places)
 }
 
 // How many phones a table has.
@@ -61,24 +73,6 @@ pub fn table_count(s: &[u8]) -> usize
         return 0;
     };
     n
-}
-
-// The places of a table's phones. No string of a table is broken, so the `else` is never entered.
-pub fn put_places(s: &[u8], places: &mut [u16])
-    requires { ⌜ (isPhoneTable (now s) ≡ true) × (length (now places) ≡ 256) ⌝ }
-    ensures { λ _. ⌜ Placed (now (s .entry)) (now (places .exit)) ⌝ }
-{
-    let n = table_count(s);
-    let mut i = 0;
-    let mut at = 4;
-    while i < n {
-        let Text::At(_, to) = reader::string_from(s, at) else {
-            return;
-        };
-        places[i] = at as u16;
-        at = to;
-        i += 1;
-    }
 }
 
 // The phone at a place of a table. The string there fits, so the `else` is never entered.
