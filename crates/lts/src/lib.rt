@@ -19,11 +19,13 @@ pub enum Letters {
     Damaged,
 }
 
-// Whether the three sections of the letter trees have their form.
-pub fn are_trees(phones: &[u8], index: &[u8], model: &[u8]) -> bool
+// Whether the three sections of the letter trees have their form; the places of the phones, if they have.
+pub fn read_trees(phones: &[u8], index: &[u8], model: &[u8], places: &mut [u16]) -> bool
+    requires { ⌜ length (now places) ≡ 256 ⌝ }
     ensures { λ r. ⌜ r ≡ isTrees (now (phones .entry)) (now (index .entry)) (now (model .entry)) ⌝ }
+    ensures { λ _. ⌜ (isTrees (now (phones .entry)) (now (index .entry)) (now (model .entry)) ≡ true → Placed (now (phones .entry)) (now (places .exit))) ⌝ }
 {
-    if !data::is_phone_table(phones) {
+    if !data::read_table(phones, places) {
         return false;
     }
     if !data::is_lts_index(index) {
@@ -114,12 +116,18 @@ fn put_letter(
 }
 
 // The phones of a word, at the end of a list of 94 cells: leftwards from the last byte until "#".
-pub fn spell(phones: &[u8], index: &[u8], model: &[u8], word: &[u8], list: &mut [u8]) -> Letters
+pub fn spell(
+    phones: &[u8],
+    places: &[u16],
+    index: &[u8],
+    model: &[u8],
+    word: &[u8],
+    list: &mut [u8],
+) -> Letters
     requires { ⌜ (isTrees (now phones) (now index) (now model) ≡ true) × (length (now word) ≤ 47) × (length (now list) ≡ 1504) ⌝ }
+    requires { ⌜ Placed (now phones) (now places) ⌝ }
     ensures { λ r. ⌜ Puts (letters (now (phones .entry)) (now (index .entry)) (now (model .entry)) (now (word .entry))) (now (list .entry)) 94 r (now (list .exit)) ⌝ }
 {
-    let mut places = [0u16; 256];
-    data::put_places(phones, &mut places);
     let room = padded(word);
     let end = word.len() + 8;
     let text = &room[..end];
@@ -130,7 +138,7 @@ pub fn spell(phones: &[u8], index: &[u8], model: &[u8], word: &[u8], list: &mut 
         if text[k] == 35 {
             return Letters::From(at);
         }
-        let Letters::From(first) = put_letter(phones, &places, index, model, text, k, list, at)
+        let Letters::From(first) = put_letter(phones, places, index, model, text, k, list, at)
         else {
             return Letters::Damaged;
         };
@@ -143,6 +151,7 @@ pub fn spell(phones: &[u8], index: &[u8], model: &[u8], word: &[u8], list: &mut 
 // The phones of a word, by way of a list of 94 cells.
 pub fn spell_out(
     phones: &[u8],
+    places: &[u16],
     index: &[u8],
     model: &[u8],
     word: &[u8],
@@ -150,10 +159,11 @@ pub fn spell_out(
     out: &mut [u8],
 ) -> Predicted
     requires { ⌜ (isTrees (now phones) (now index) (now model) ≡ true) × (length (now word) ≤ 47) × (length (now list) ≡ 1504) ⌝ }
+    requires { ⌜ Placed (now phones) (now places) ⌝ }
     ensures { λ r. ⌜ toldPredicted r ≡ toldPhones (letters (now (phones .entry)) (now (index .entry)) (now (model .entry)) (now (word .entry))) (now (out .entry)) ⌝ }
     ensures { λ _. ⌜ now (out .exit) ≡ outPhones (letters (now (phones .entry)) (now (index .entry)) (now (model .entry)) (now (word .entry))) (now (out .entry)) ⌝ }
 {
-    let Letters::From(first) = spell(phones, index, model, word, list) else {
+    let Letters::From(first) = spell(phones, places, index, model, word, list) else {
         return Predicted::Refused(Refusal::Damaged);
     };
     let n = 94 - first;
@@ -169,12 +179,13 @@ pub fn predict(phones: &[u8], index: &[u8], model: &[u8], word: &[u8], out: &mut
     ensures { λ r. ⌜ toldPredicted r ≡ answer (now (phones .entry)) (now (index .entry)) (now (model .entry)) (now (word .entry)) (now (out .entry)) ⌝ }
     ensures { λ _. ⌜ now (out .exit) ≡ predicted (now (phones .entry)) (now (index .entry)) (now (model .entry)) (now (word .entry)) (now (out .entry)) ⌝ }
 {
-    if !are_trees(phones, index, model) {
+    let mut places = [0u16; 256];
+    if !read_trees(phones, index, model, &mut places) {
         return Predicted::Refused(Refusal::Section);
     }
     if !texts::is_word(word) {
         return Predicted::Refused(Refusal::Text);
     }
     let mut list = [0u8; 1504];
-    spell_out(phones, index, model, word, &mut list, out)
+    spell_out(phones, &places, index, model, word, &mut list, out)
 }

@@ -1,4 +1,4 @@
--- `lts::spell` meets its contract: the places of the phones are found, then the loop goes leftwards over the padded word. Assumes nothing.
+-- `lts::spell` meets its contract: the loop goes leftwards over the padded word. Assumes nothing.
 use Prim.Native.Nat.{ℕ, _+_, _≤_}
 use native.Mathlib.Omega.{arith}
 use mathlib.Core.Path.{_≡_, refl, sym, ap, _∙_, subst}
@@ -6,25 +6,17 @@ use mathlib.Core.List.{List}
 use lib.ListN.{length, getD, length-take}
 use borrow.Author.Tests.{eq-eqb, ne-eqb}
 use Rattle.texts.specs.Text.{is}
-use Rattle.lts.specs.Letters.{padded, letters, upTo, Puts, trees-table}
+use Rattle.lts.specs.Letters.{padded, letters, upTo, Puts}
 use Rattle.lts.proofs.Leftwards.{Spelling, padded-length, spelling-start, spelling-end, spelling-stop, spelling-damaged, spelling-turn}
 use borrow.Author.Needs.{needs}
 use Rattle.lts.proofs.spell.Statement.{statement}
 use Rattle.lts.proofs.spell.Tie as tie
 
 abbrev Inv-loop : tie.InvT-loop
-Inv-loop phones index model word list₀ places end text left₀ at₀ list left at = (text ≡ padded word) × (left ≤ length word) × (length list ≡ length list₀) × Spelling phones index model text list₀ list (length word) left at
+Inv-loop phones places index model word list₀ end text left₀ at₀ list left at = (text ≡ padded word) × (left ≤ length word) × (length list ≡ length list₀) × Spelling phones index model text list₀ list (length word) left at
 
 abbrev μ-loop : tie.MeasureT-loop
-μ-loop phones index model word list₀ places end text left₀ at₀ list left at = left
-
-slice-aggregate-put-places : tie.Need-slice-aggregate-put-places Inv-loop μ-loop
-slice-aggregate-put-places c = search needs
-
-put-places-requires : tie.Need-put-places-requires Inv-loop μ-loop
-put-places-requires c κs =
-    let a = c .before .before .before .before .before .before in
-    (trees-table (a .args .phones .now) (a .args .index .now) (a .args .model .now) (a .pre .0), refl)
+μ-loop phones places index model word list₀ end text left₀ at₀ list left at = left
 
 padded-requires : tie.Need-padded-requires Inv-loop μ-loop
 padded-requires c κs = search needs
@@ -36,11 +28,11 @@ array-share-prefix-room : tie.Need-array-share-prefix-room Inv-loop μ-loop
 array-share-prefix-room c = search needs
 
 slice-aggregate-text : tie.Need-slice-aggregate-text Inv-loop μ-loop
-slice-aggregate-text c = rw (c .before .padded .ensures) (sym (padded-length (c .before .before .before .before .before .before .before .before .before .before .args .word .now)))
+slice-aggregate-text c = rw (c .before .padded .ensures) (sym (padded-length (c .before .before .before .before .before .before .before .before .args .word .now)))
 
 loop-holds : tie.Need-loop-holds Inv-loop μ-loop
 loop-holds c =
-    let a = c .before .before .before .before .before .before .before .before .before .before .args in
+    let a = c .before .before .before .before .before .before .before .before .args in
     let e : _ ≡ padded (a .word .now) = c .before .padded .ensures in
     (e, omega arith, refl, spelling-start (a .phones .now) (a .index .now) (a .model .now) _ (a .list .now) (length (a .word .now)) (omega arith))
 
@@ -51,7 +43,7 @@ shared-slice-read-if1 : tie.Need-shared-slice-read-if1 Inv-loop μ-loop
 shared-slice-read-if1 c =
     let l = c .before .before .loop in
     let t = ap (λ (x : List ℕ). length x) (l .inv .0) in
-    omega (arith, t, padded-length (c .before .before .before .before .before .before .before .before .before .before .before .before .before .args .word .now))
+    omega (arith, t, padded-length (c .before .before .before .before .before .before .before .before .before .before .before .args .word .now))
 
 same-length : tie.Need-same-length Inv-loop μ-loop
 same-length c = search needs
@@ -60,24 +52,21 @@ returns : tie.Need-returns Inv-loop μ-loop
 unfolding letters is
 returns c =
     let l = c .before .before .before .loop in
-    let a = c .before .before .before .before .before .before .before .before .before .before .before .before .before .before .args in
+    let a = c .before .before .before .before .before .before .before .before .before .before .before .before .args in
     rw (← l .inv .0)
     (spelling-stop (a .phones .now) (a .index .now) (a .model .now) _ (a .list .now) (l .list) (length (a .word .now)) (l .left) (l .at) (l .inv .3)
     (omega arith) (eq-eqb _ 35 (c .if1 .taken)))
 
-slice-aggregate-put-letter : tie.Need-slice-aggregate-put-letter Inv-loop μ-loop
-slice-aggregate-put-letter c = search needs
-
 put-letter-requires : tie.Need-put-letter-requires Inv-loop μ-loop
 put-letter-requires c κs =
-    let l = c .before .before .before .before .before .loop in
-    let q = c .before .before .before .before .before .before .before .before .before .before .before .before .before .before .before .before in
+    let l = c .before .before .before .before .loop in
+    let q = c .before .before .before .before .before .before .before .before .before .before .before .before .before in
     let t = ap (λ (x : List ℕ). length x) (l .inv .0) in
     let p = padded-length (q .args .word .now) in
     let s = l .inv .3 in
     let r = s .room in
     let n = s .count in
-    (q .pre .0, ((omega arith, omega arith), ((omega arith, omega (arith, q .pre)), c .before .before .before .before .before .before .before .before .before .put-places .ensures)))
+    (q .pre .0 .0, ((omega arith, omega arith), ((omega arith, omega (arith, q .pre)), q .pre .1)))
 
 enum-known-first : tie.Need-enum-known-first Inv-loop μ-loop
 enum-known-first c = search needs
@@ -91,12 +80,12 @@ same-length-2 c = search needs
 returns-2 : tie.Need-returns-2 Inv-loop μ-loop
 unfolding letters is
 returns-2 c =
-    let l = c .before .before .before .before .before .before .before .before .before .before .loop in
-    let a = c .before .before .before .before .before .before .before .before .before .before .before .before .before .before .before .before .before .before .before .before .before .args in
+    let l = c .before .before .before .before .before .before .before .before .before .loop in
+    let a = c .before .before .before .before .before .before .before .before .before .before .before .before .before .before .before .before .before .before .args in
     let p = c .before .before .before .before .put-letter in
     rw (← l .inv .0)
     (spelling-damaged (a .phones .now) (a .index .now) (a .model .now) _ (a .list .now) (l .list) (length (a .word .now)) (l .left) (l .at) (l .inv .3)
-    (omega arith) (ne-eqb _ 35 (c .before .before .before .before .before .before .before .if1 .left)) (p .last .1 .1 .1 .1 .1 .1 .0) (p .result) (p .ensures) (c .enum-told .given .1))
+    (omega arith) (ne-eqb _ 35 (c .before .before .before .before .before .before .if1 .left)) (p .last .1 .1 .1 .1 .1 .1 .0) (p .result) (p .ensures) (c .enum-told .given .1))
 
 sub-left : tie.Need-sub-left Inv-loop μ-loop
 sub-left c = search needs
@@ -107,14 +96,14 @@ loop-less c = search needs
 loop-again : tie.Need-loop-again Inv-loop μ-loop
 unfolding is
 loop-again c =
-    let l = c .before .before .before .before .before .before .before .before .before .before .before .loop in
-    let a = c .before .before .before .before .before .before .before .before .before .before .before .before .before .before .before .before .before .before .before .before .before .before .args in
+    let l = c .before .before .before .before .before .before .before .before .before .before .loop in
+    let a = c .before .before .before .before .before .before .before .before .before .before .before .before .before .before .before .before .before .before .before .args in
     let p = c .before .before .before .before .before .put-letter in (
       l .inv .0,
       omega arith,
       omega (arith, p .kept .1 .1 .1 .1 .1 .1 .0),
       spelling-turn (a .phones .now) (a .index .now) (a .model .now) _ (a .list .now) (l .list) (length (a .word .now)) (l .left) (l .at) (l .inv .3)
-          (omega arith) (ne-eqb _ 35 (c .before .before .before .before .before .before .before .before .if1 .left)) (p .last .1 .1 .1 .1 .1 .1 .0) (p .result) (c .before .first .given .0 .0) (p .ensures) (c .before .first .given .1),
+          (omega arith) (ne-eqb _ 35 (c .before .before .before .before .before .before .before .if1 .left)) (p .last .1 .1 .1 .1 .1 .1 .0) (p .result) (c .before .first .given .0 .0) (p .ensures) (c .before .first .given .1),
     )
 
 same-length-3 : tie.Need-same-length-3 Inv-loop μ-loop
@@ -124,7 +113,7 @@ returns-3 : tie.Need-returns-3 Inv-loop μ-loop
 unfolding letters
 returns-3 c =
     let l = c .before .loop in
-    let a = c .before .before .before .before .before .before .before .before .before .before .before .before .args in
+    let a = c .before .before .before .before .before .before .before .before .before .before .args in
     rw (← l .inv .0)
     (spelling-end (a .phones .now) (a .index .now) (a .model .now) _ (a .list .now) (l .list) (length (a .word .now)) (l .left) (l .at) (l .inv .3) (omega arith))
 
@@ -134,8 +123,6 @@ spell-spec =
     (tie.spec
     Inv-loop
     μ-loop
-    slice-aggregate-put-places
-    put-places-requires
     padded-requires
     add-end
     array-share-prefix-room
@@ -145,7 +132,6 @@ spell-spec =
     shared-slice-read-if1
     same-length
     returns
-    slice-aggregate-put-letter
     put-letter-requires
     enum-known-first
     enum-told

@@ -14,18 +14,17 @@ use borrow.Author.Needs.{needs}
 use Rattle.lts.proofs.spell_out.Statement.{statement}
 use Rattle.lts.proofs.spell_out.Tie as tie
 
--- the phones, where the letters were read
 -- the phones, where all letters were read
 known : (c : tie.After-known-told) →
-    let s = c .before .before .before .before .before .before .before .before .before .before .before .before .before in
+    let s = c .before .before .before .before .before .before .before .before .before .before .before .before .before .before in
     let a = s .args in
-    Found (letters (a .phones .now) (a .index .now) (a .model .now) (a .word .now)) (c .before .first .given .0 .0) (c .before .before .before .before .before .spell .last .1 .1 .1 .1 .0)
+    Found (letters (a .phones .now) (a .index .now) (a .model .now) (a .word .now)) (c .before .first .given .0 .0) (c .before .before .before .before .before .spell .last .1 .1 .1 .1 .1 .0)
 known c =
-    let s = c .before .before .before .before .before .before .before .before .before .before .before .before .before in
+    let s = c .before .before .before .before .before .before .before .before .before .before .before .before .before .before in
     let a = s .args in
     let p = c .before .before .before .before .before .spell in
-    found (letters (a .phones .now) (a .index .now) (a .model .now) (a .word .now)) (a .list .now) (p .last .1 .1 .1 .1 .0) (p .result)
-    (c .before .first .given .0 .0) (s .pre .2) (omega (arith, p .kept .1 .1 .1 .1 .0, s .pre .2)) (p .ensures) (c .before .first .given .1)
+    found (letters (a .phones .now) (a .index .now) (a .model .now) (a .word .now)) (a .list .now) (p .last .1 .1 .1 .1 .1 .0) (p .result)
+    (c .before .first .given .0 .0) (s .pre .0 .2) (omega (arith, p .kept .1 .1 .1 .1 .1 .0, s .pre .0 .2)) (p .ensures) (c .before .first .given .1)
 
 spell-requires : tie.Need-spell-requires
 spell-requires c κs = search needs
@@ -41,9 +40,9 @@ same-length c = search needs
 
 returns : tie.Need-returns
 returns c =
-    let a = c .before .before .before .before .before .before .before .before .before .before .before .before .args in
+    let a = c .before .before .before .before .before .before .before .before .before .before .before .before .before .args in
     let L = letters (a .phones .now) (a .index .now) (a .model .now) (a .word .now) in
-    let d = damage L (a .list .now) (c .before .before .before .before .spell .last .1 .1 .1 .1 .0) (c .before .before .before .before .spell .result) (c .before .before .before .before .spell .ensures) (c .enum-told .given .1) in
+    let d = damage L (a .list .now) (c .before .before .before .before .spell .last .1 .1 .1 .1 .1 .0) (c .before .before .before .before .spell .result) (c .before .before .before .before .spell .ensures) (c .enum-told .given .1) in
     (rw d, rw d)
 
 sub-n : tie.Need-sub-n
@@ -60,25 +59,25 @@ returns-2 c =
     let f = known (c .before) in
     let n = f .count in
     let h : 16 * length (f .phones) ≤ 1504 = omega arith in
-    let t = lt-ltb (length (c .before .before .before .before .before .before .before .before .before .before .before .before .before .before .args .out .now)) (16 * length (f .phones)) (omega arith) in
+    let t = lt-ltb (length (c .before .before .before .before .before .before .before .before .before .before .before .before .before .before .before .args .out .now)) (16 * length (f .phones)) (omega arith) in
     (rw (f .is, t), rw (f .is, t))
 
 mul-from : tie.Need-mul-from
 mul-from c = omega (arith, known (c .before) .count)
 
 sub-copy-in : tie.Need-sub-copy-in
-sub-copy-in c = omega (arith, known (c .before .before) .count, c .before .before .before .before .before .before .before .spell .kept .1 .1 .1 .1 .0, c .before .before .before .before .before .before .before .before .before .before .before .before .before .before .before .pre)
+sub-copy-in c = omega (arith, known (c .before .before) .count, c .before .before .before .before .before .before .before .spell .kept .1 .1 .1 .1 .1 .0, c .before .before .before .before .before .before .before .before .before .before .before .before .before .before .before .before .pre)
 
 part-copy-in-start : tie.Need-part-copy-in-start
-part-copy-in-start c = omega (arith, known (c .before .before .before) .count, c .before .before .before .before .before .before .before .before .spell .kept .1 .1 .1 .1 .0, c .before .before .before .before .before .before .before .before .before .before .before .before .before .before .before .before .pre)
+part-copy-in-start c = omega (arith, known (c .before .before .before) .count, c .before .before .before .before .before .before .before .before .spell .kept .1 .1 .1 .1 .1 .0, c .before .before .before .before .before .before .before .before .before .before .before .before .before .before .before .before .before .pre)
 
 part-copy-in-end : tie.Need-part-copy-in-end
-part-copy-in-end c = omega (arith, known (c .before .before .before) .count, c .before .before .before .before .before .before .before .before .spell .kept .1 .1 .1 .1 .0, c .before .before .before .before .before .before .before .before .before .before .before .before .before .before .before .before .pre)
+part-copy-in-end c = omega (arith, known (c .before .before .before) .count, c .before .before .before .before .before .before .before .before .spell .kept .1 .1 .1 .1 .1 .0, c .before .before .before .before .before .before .before .before .before .before .before .before .before .before .before .before .before .pre)
 
 copy-in-requires : tie.Need-copy-in-requires
 copy-in-requires c κs =
     let n = known (c .before .before .before .before) .count in
-    simp (length-take, length-drop) (omega (arith, c .before .before .before .before .before .before .before .before .before .spell .kept .1 .1 .1 .1 .0, c .before .before .before .before .before .before .before .before .before .before .before .before .before .before .before .before .before .pre))
+    simp (length-take, length-drop) (omega (arith, c .before .before .before .before .before .before .before .before .before .spell .kept .1 .1 .1 .1 .1 .0, c .before .before .before .before .before .before .before .before .before .before .before .before .before .before .before .before .before .before .pre))
 
 same-length-3 : tie.Need-same-length-3
 same-length-3 c = search needs
@@ -90,8 +89,8 @@ returns-3 : tie.Need-returns-3
 returns-3 c =
     let f = known (c .before .before .before .before .before .before .before) in
     let n = f .count in
-    let out = c .before .before .before .before .before .before .before .before .before .before .before .before .before .before .before .before .before .before .before .before .args .out .now in
-    let list = c .before .before .before .before .before .before .before .before .before .before .before .before .spell .last .1 .1 .1 .1 .0 in
+    let out = c .before .before .before .before .before .before .before .before .before .before .before .before .before .before .before .before .before .before .before .before .before .args .out .now in
+    let list = c .before .before .before .before .before .before .before .before .before .before .before .before .spell .last .1 .1 .1 .1 .1 .0 in
     let from = 16 * c .before .before .before .before .before .before .before .before .first .given .0 .0 in
     let e : 94 - c .before .before .before .before .before .before .before .before .first .given .0 .0 ≡ length (f .phones) = omega arith in
     let t = le-ltb (length out) (16 * length (f .phones)) (omega arith) in
