@@ -1,14 +1,14 @@
 -- Cells as the code cuts them out of a list. Assumes nothing.
-use native.Mathlib.Nat.{zero-sub, suc-sub-suc, sub-zero}
+use native.Mathlib.Nat.{zero-sub, suc-sub-suc, sub-zero, suc-add}
 use native.Mathlib.Numerals.{one-add}
 use Prim.Native.Nat.{ℕ, zero, suc, _+_, _-_, _*_, _/_, _≤_, _<_, min}
 use native.Mathlib.Omega.{arith}
 use native.Mathlib.Decide.{decLe}
 use mathlib.Core.Path.{_≡_, refl, sym, ap, _∙_}
 use mathlib.Core.Bool.{Bool}
-use mathlib.Core.List.{List, [], _∷_, _++_}
+use mathlib.Core.List.{List, [], _∷_, _++_, append-assoc}
 use lib.ListN.{length, getD, take, drop, set, replicate, length-drop}
-use lib.Seq.{take-all, take-length, paste}
+use lib.Seq.{take-all, take-length, drop-append-le, paste}
 use Rattle.records.specs.Records.{records, record-of, byte-of, putRecord}
 use Rattle.cells.specs.Cells.{text, cell, length-cell}
 
@@ -30,16 +30,20 @@ drop-replicate zero m = rw sub-zero
 drop-replicate (suc n) zero = rw zero-sub
 drop-replicate (suc n) (suc m) = rw suc-sub-suc (drop-replicate n m)
 
--- zeros with a length and a text put in are the text's cell
-pub filled : (p : List ℕ) → length p ≤ 15 → paste (set (replicate 16 0) 0 (length p)) 1 p (length p) ≡ cell p
+-- zeros at a place, and a length and a text over them, are the text's cell there
+cell-over-zeros : (at : ℕ) (b p : List ℕ) → at + 16 ≤ length b → length p ≤ 15
+    → paste (set (paste b at (replicate 16 0) 16) at (length p)) (at + 1) p (length p) ≡ paste b at (cell p) 16
 unfolding cell
-filled p h = rw (one-add, take-length p, drop-replicate (length p) 15)
+cell-over-zeros zero b p room h =
+    let l : length p ≤ length (replicate 15 zero) = h in
+    let w = length-cell p h in
+    rw (one-add, take-length p, take-all 15 (p ++ replicate (15 - length p) 0) (omega arith), drop-append-le (length p) (replicate 15 0) (drop 16 b), drop-replicate (length p) 15)
+    (sym (append-assoc (length p ∷ p) (replicate (15 - length p) 0) (drop 16 b)))
+cell-over-zeros (suc at) [] p room h = absurd (omega arith)
+cell-over-zeros (suc at) (x ∷ b) p room h = simp suc-add (ap (λ (l : List ℕ). x ∷ l) (cell-over-zeros at b p (omega arith) h))
 
--- a cell made so and pasted at its place replaces the record there
-pub put : (b p c b′ : List ℕ) (i : ℕ) → length p ≤ 15 → c ≡ paste (set (replicate 16 0) 0 (length p)) 1 p (length p)
-    → b′ ≡ paste b (16 * i) c (length c) → b′ ≡ putRecord 16 b i (cell p)
+-- so they replace a record
+pub put : (b z b′ p : List ℕ) (i : ℕ) → 16 * i + 16 ≤ length b → length p ≤ 15 → z ≡ paste b (16 * i) (replicate 16 0) 16
+    → b′ ≡ paste (set z (16 * i) (length p)) (16 * i + 1) p (length p) → b′ ≡ putRecord 16 b i (cell p)
 unfolding putRecord
-put b p c b′ i h ec eb =
-    let e : c ≡ cell p = ec ∙ filled p h in
-    let l : length c ≡ 16 = rw e (length-cell p h) in
-    eb ∙ rw (l, e)
+put b z b′ p i room h ez e = e ∙ rw ez (cell-over-zeros (16 * i) b p room h)

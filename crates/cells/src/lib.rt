@@ -68,10 +68,10 @@ pub fn put_cell(list: &mut [u8], i: usize, phone: &[u8])
     requires { ⌜ (16 * i + 16 ≤ length (now list)) × (length (now phone) ≤ 15) ⌝ }
     ensures { λ _. ⌜ now (list .exit) ≡ putRecord 16 (now (list .entry)) i (cell (now (phone .entry))) ⌝ }
 {
-    let mut c = [0u8; 16];
-    c[0] = phone.len() as u8;
-    records::copy_in(&mut c, 1, phone);
-    records::copy_in(list, 16 * i, &c);
+    let at = 16 * i;
+    records::clear(list, at, 16);
+    list[at] = phone.len() as u8;
+    records::copy_in(list, at + 1, phone);
 }
 
 // The phones of a list handed in as cells from cell k on, with zeros past each text.

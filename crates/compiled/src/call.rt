@@ -2,7 +2,9 @@
 ghost use mathlib.Core.Path.{_≡_};
 ghost use mathlib.Core.Bool.{true};
 ghost use Prim.Native.Nat.{_+_, _-_, _<_, _^_};
+ghost use lib.ListN.{length};
 ghost use Rattle.texts.specs.Lists.{every, upTo};
+ghost use Rattle.data.specs.Places.{Placed};
 ghost use Rattle.data.specs.Sections.{isPhoneTable};
 ghost use Rattle.answers.specs.Told.{toldVerdict};
 ghost use Rattle.compiled.specs.Entries.{count};
@@ -11,14 +13,24 @@ use crate::entries;
 use answers::Refusal;
 use answers::Verdict;
 
-// Whether the sections that hold compiled entries have their form.
-pub fn is_lexicon(phones: &[u8], index: &[u8]) -> bool
+// Whether the sections that hold compiled entries have their form; the places of the phones, if they have.
+pub fn read_lexicon(phones: &[u8], index: &[u8], places: &mut [u16]) -> bool
+    requires { ⌜ length (now places) ≡ 256 ⌝ }
     ensures { λ r. ⌜ r ≡ isLexicon (now (phones .entry)) (now (index .entry)) ⌝ }
+    ensures { λ _. ⌜ (isLexicon (now (phones .entry)) (now (index .entry)) ≡ true → Placed (now (phones .entry)) (now (places .exit))) ⌝ }
 {
-    if !data::is_phone_table(phones) {
+    if !data::read_table(phones, places) {
         return false;
     }
     data::is_lex_index(index)
+}
+
+// Whether they have their form.
+pub fn is_lexicon(phones: &[u8], index: &[u8]) -> bool
+    ensures { λ r. ⌜ r ≡ isLexicon (now (phones .entry)) (now (index .entry)) ⌝ }
+{
+    let mut places = [0u16; 256];
+    read_lexicon(phones, index, &mut places)
 }
 
 // Whether entry i is whole and every number of it has a phone.

@@ -6,6 +6,7 @@ mod search;
 
 pub use call::check_lexicon;
 pub use call::is_lexicon;
+pub use call::read_lexicon;
 pub use entries::entry;
 pub use entries::is_spoken;
 pub use entries::is_whole;

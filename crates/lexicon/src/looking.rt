@@ -6,6 +6,7 @@ ghost use Prim.Native.Nat.{_*_, _/_, _≤_, _<_};
 ghost use lib.ListN.{length, getD, drop};
 ghost use Rattle.texts.specs.Text.{folded};
 ghost use Rattle.cells.specs.Cells.{phonesOf, cellsOf};
+ghost use Rattle.data.specs.Places.{Placed};
 ghost use Rattle.data.specs.Sections.{isPhoneTable};
 ghost use Rattle.addenda.specs.Addenda.{addenda, noAddendum};
 ghost use Rattle.store.specs.Store.{isSound, isWanted, next as nextOf, used as usedOf, entries};
@@ -70,13 +71,12 @@ fn give_row(n: usize, out: &mut [u8]) -> Looked
     Looked::Found(Source::Addenda, count)
 }
 
-// The phones of a compiled entry as cells at the front of out.
-fn put_spoken(phones: &[u8], s: &[u8], out: &mut [u8])
+// The phones of a compiled entry as cells at the front of out; places are those of the table's phones.
+fn put_spoken(phones: &[u8], places: &[u16], s: &[u8], out: &mut [u8])
+    requires { ⌜ Placed (now phones) (now places) ⌝ }
     requires { ⌜ (isPhoneTable (now phones) ≡ true) × (isSpoken (now phones) (now s) ≡ true) × (16 * length (spokenOf (now phones) (now s)) ≤ length (now out)) ⌝ }
     ensures { λ _. ⌜ now (out .exit) ≡ cellsOf (spokenOf (now (phones .entry)) (now (s .entry))) ++ drop (16 * length (spokenOf (now (phones .entry)) (now (s .entry)))) (now (out .entry)) ⌝ }
 {
-    let mut places = [0u16; 256];
-    data::put_places(phones, &mut places);
     let numbers = compiled::numbers(s);
     let mut i = 0;
     while i < numbers.len() {
@@ -87,7 +87,8 @@ fn put_spoken(phones: &[u8], s: &[u8], out: &mut [u8])
 }
 
 // The phones of a whole compiled entry as an answer; damage if a number has no phone.
-fn give_spoken(phones: &[u8], s: &[u8], out: &mut [u8]) -> Looked
+fn give_spoken(phones: &[u8], places: &[u16], s: &[u8], out: &mut [u8]) -> Looked
+    requires { ⌜ Placed (now phones) (now places) ⌝ }
     requires { ⌜ isPhoneTable (now phones) ≡ true ⌝ }
     ensures { λ r. ⌜ toldLooked r ≡ toldFinding (spoken (now (phones .entry)) (now (s .entry))) (now (out .entry)) ⌝ }
     ensures { λ _. ⌜ now (out .exit) ≡ outFinding (spoken (now (phones .entry)) (now (s .entry))) (now (out .entry)) ⌝ }
@@ -102,19 +103,21 @@ fn give_spoken(phones: &[u8], s: &[u8], out: &mut [u8]) -> Looked
     if out.len() < 16 * n {
         return Looked::Refused(Refusal::Short);
     }
-    put_spoken(phones, s, out);
+    put_spoken(phones, places, s, out);
     Looked::Found(Source::Compiled, n)
 }
 
 // The compiled answer.
 fn give_compiled(
     phones: &[u8],
+    places: &[u16],
     index: &[u8],
     dat: &[u8],
     word: &[u8],
     tag: u8,
     out: &mut [u8],
 ) -> Looked
+    requires { ⌜ Placed (now phones) (now places) ⌝ }
     requires { ⌜ isLexicon (now phones) (now index) ≡ true ⌝ }
     ensures { λ r. ⌜ toldLooked r ≡ toldFinding (fromCompiled (now (phones .entry)) (now (index .entry)) (now (dat .entry)) (now (word .entry)) tag) (now (out .entry)) ⌝ }
     ensures { λ _. ⌜ now (out .exit) ≡ outFinding (fromCompiled (now (phones .entry)) (now (index .entry)) (now (dat .entry)) (now (word .entry)) tag) (now (out .entry)) ⌝ }
@@ -122,13 +125,14 @@ fn give_compiled(
     match compiled::choose(index, dat, word, tag) {
         Chosen::Damaged => Looked::Refused(Refusal::Damaged),
         Chosen::Missing => Looked::Nothing,
-        Chosen::Entry(i) => give_spoken(phones, compiled::entry(index, dat, i), out),
+        Chosen::Entry(i) => give_spoken(phones, places, compiled::entry(index, dat, i), out),
     }
 }
 
 // The word in a sound store's entries, the addenda or the compiled entries.
 pub fn find(
     phones: &[u8],
+    places: &[u16],
     index: &[u8],
     dat: &[u8],
     store: &[u8],
@@ -136,6 +140,7 @@ pub fn find(
     tag: u8,
     out: &mut [u8],
 ) -> Looked
+    requires { ⌜ Placed (now phones) (now places) ⌝ }
     requires { ⌜ (isLexicon (now phones) (now index) ≡ true) × (isSound (now store) ≡ true) × (length (now word) ≤ 47) ⌝ }
     ensures { λ r. ⌜ toldLooked r ≡ toldFinding (findOf (entries (now (store .entry))) (now (phones .entry)) (now (index .entry)) (now (dat .entry)) (now (word .entry)) tag) (now (out .entry)) ⌝ }
     ensures { λ _. ⌜ now (out .exit) ≡ outFinding (findOf (entries (now (store .entry))) (now (phones .entry)) (now (index .entry)) (now (dat .entry)) (now (word .entry)) tag) (now (out .entry)) ⌝ }
@@ -148,7 +153,7 @@ pub fn find(
     if row < 42 {
         return give_row(row, out);
     }
-    give_compiled(phones, index, dat, word, tag, out)
+    give_compiled(phones, places, index, dat, word, tag, out)
 }
 
 pub fn lookup(
@@ -163,7 +168,8 @@ pub fn lookup(
     ensures { λ r. ⌜ toldLooked r ≡ lookupOf (now (phones .entry)) (now (index .entry)) (now (dat .entry)) (now (store .entry)) (now (word .entry)) (now (tag .entry)) (now (out .entry)) ⌝ }
     ensures { λ _. ⌜ now (out .exit) ≡ lookedUp (now (phones .entry)) (now (index .entry)) (now (dat .entry)) (now (store .entry)) (now (word .entry)) (now (tag .entry)) (now (out .entry)) ⌝ }
 {
-    if !compiled::is_lexicon(phones, index) {
+    let mut places = [0u16; 256];
+    if !compiled::read_lexicon(phones, index, &mut places) {
         return Looked::Refused(Refusal::Section);
     }
     if !store::is_sound(store) {
@@ -174,6 +180,7 @@ pub fn lookup(
     }
     find(
         phones,
+        &places,
         index,
         dat,
         store,

@@ -14,15 +14,15 @@ use borrow.Author.Needs.{needs}
 use Rattle.lexicon.proofs.looking.find.Statement.{statement}
 use Rattle.lexicon.proofs.looking.find.Tie as tie
 
-which : (c : tie.After-runtime) → first (isWanted true (map folded (c .before .before .before .before .before .before .before .args .word .now)) (c .before .before .before .before .before .before .before .args .tag)) (entries (c .before .before .before .before .before .before .before .args .store .now)) ≡ foundAt (c .before .before .before .before .before .before .before .args .store .now) (c .runtime .result)
+which : (c : tie.After-runtime) → first (isWanted true (map folded (c .before .before .before .before .before .before .before .before .args .word .now)) (c .before .before .before .before .before .before .before .before .args .tag)) (entries (c .before .before .before .before .before .before .before .before .args .store .now)) ≡ foundAt (c .before .before .before .before .before .before .before .before .args .store .now) (c .runtime .result)
 which c =
-    let a = c .before .before .before .before .before .before .before .args in
+    let a = c .before .before .before .before .before .before .before .before .args in
     let b = a .store .now in
-    tells b (isWanted true (map folded (a .word .now)) (a .tag)) (sound b (c .before .before .before .before .before .before .before .pre .1)) .which
+    tells b (isWanted true (map folded (a .word .now)) (a .tag)) (sound b (c .before .before .before .before .before .before .before .before .pre .1 .1)) .which
     ∙ ap (foundAt b) (sym (c .runtime .ensures .0))
 
 runtime-requires : tie.Need-runtime-requires
-runtime-requires c κs = c .before .before .before .before .before .before .pre .2
+runtime-requires c κs = c .before .before .before .before .before .before .before .pre .1 .2
 
 slot-requires : tie.Need-slot-requires
 slot-requires c κs = c .before .runtime .ensures .1
@@ -39,7 +39,7 @@ same-length c = c .before .before .give-cells .kept .1 .0
 returns : tie.Need-returns
 unfolding entryAt
 returns c =
-    let a = c .before .before .before .before .before .before .before .before .before .before .before .before .before .before .args in
+    let a = c .before .before .before .before .before .before .before .before .before .before .before .before .before .before .before .args in
     let b = a .store .now in
     let n = c .before .before .before .before .before .before .before .runtime .result in
     let w = which (c .before .before .before .before .before .before .before) ∙ found-some b n (c .before .before .before .before .before .before .if1 .taken) in
@@ -57,20 +57,20 @@ same-length-2 c = c .before .before .give-row .kept .1 .0
 
 returns-2 : tie.Need-returns-2
 returns-2 c =
-    let a = c .before .before .before .before .before .before .before .before .before .before .before .before .before .before .args in
+    let a = c .before .before .before .before .before .before .before .before .before .before .before .before .before .before .before .args in
     let b = a .store .now in
     let w = which (c .before .before .before .before .before .before .before) ∙ found-none b (c .before .before .before .before .before .before .before .runtime .result) (c .before .before .before .before .before .before .if1 .left) in
     rw (find-row (entries b) (a .phones .now) (a .index .now) (a .dat .now) (a .word .now) (a .tag) w (c .before .before .before .before .before .find .result) (c .before .before .before .before .before .find .ensures) (c .before .before .before .before .if2 .taken)) (c .before .before .give-row .ensures)
 
 give-compiled-requires : tie.Need-give-compiled-requires
-give-compiled-requires c κs = c .before .before .before .before .before .before .before .before .before .before .before .pre .0
+give-compiled-requires c κs = let p = c .before .before .before .before .before .before .before .before .before .before .before .before .pre in (p .0, p .1 .0)
 
 same-length-3 : tie.Need-same-length-3
-same-length-3 c = c .before .before .give-compiled .kept .1 .1 .1 .1 .1 .0
+same-length-3 c = c .before .before .give-compiled .kept .1 .1 .1 .1 .1 .1 .0
 
 returns-3 : tie.Need-returns-3
 returns-3 c =
-    let a = c .before .before .before .before .before .before .before .before .before .before .before .before .before .before .args in
+    let a = c .before .before .before .before .before .before .before .before .before .before .before .before .before .before .before .args in
     let b = a .store .now in
     let w = which (c .before .before .before .before .before .before .before) ∙ found-none b (c .before .before .before .before .before .before .before .runtime .result) (c .before .before .before .before .before .before .if1 .left) in
     rw (find-compiled (entries b) (a .phones .now) (a .index .now) (a .dat .now) (a .word .now) (a .tag) w (c .before .before .before .before .before .find .result) (c .before .before .before .before .before .find .ensures) (c .before .before .before .before .if2 .left)) (c .before .before .give-compiled .ensures)

@@ -13,7 +13,7 @@ use borrow.Author.Needs.{needs}
 use Rattle.lexicon.proofs.looking.give_compiled.Statement.{statement}
 use Rattle.lexicon.proofs.looking.give_compiled.Tie as tie
 
-place : (c : tie.After-known-told) → chosen (c .before .before .before .before .before .before .before .before .before .args .index .now) (c .before .before .before .before .before .before .before .before .before .args .dat .now) (c .before .before .before .before .before .before .before .before .before .args .word .now) (c .before .before .before .before .before .before .before .before .before .args .tag) ≡ Entry (c .before .i .given .0 .0)
+place : (c : tie.After-known-told) → chosen (c .before .before .before .before .before .before .before .before .before .before .args .index .now) (c .before .before .before .before .before .before .before .before .before .before .args .dat .now) (c .before .before .before .before .before .before .before .before .before .before .args .word .now) (c .before .before .before .before .before .before .before .before .before .before .args .tag) ≡ Entry (c .before .i .given .0 .0)
 place c = sym (c .before .before .before .choose .ensures) ∙ c .before .i .given .1
 
 choose-requires : tie.Need-choose-requires
@@ -30,13 +30,13 @@ enum-known-i c = search needs
 
 entry-requires : tie.Need-entry-requires
 entry-requires c κs =
-    let a = c .before .before .before .before .before .before .before .before .before .args in
+    let a = c .before .before .before .before .before .before .before .before .before .before .args in
     let b : c .before .i .given .0 .0 < count (a .index .now) = subst (λ (x : Chosen). Below (count (a .index .now)) x) (place (c)) (below (a .index .now) (a .dat .now) (a .word .now) (a .tag)) in
-    let l = index-room (a .phones .now) (a .index .now) (c .before .before .before .before .before .before .before .before .before .pre) in
+    let l = index-room (a .phones .now) (a .index .now) (c .before .before .before .before .before .before .before .before .before .before .pre .1) in
     omega arith
 
 give-spoken-requires : tie.Need-give-spoken-requires
-give-spoken-requires c κs = lexicon-table (c .before .before .before .before .before .before .before .before .before .before .before .args .phones .now) (c .before .before .before .before .before .before .before .before .before .before .before .args .index .now) (c .before .before .before .before .before .before .before .before .before .before .before .pre)
+give-spoken-requires c κs = let p = c .before .before .before .before .before .before .before .before .before .before .before .before in (p .pre .0, lexicon-table (p .args .phones .now) (p .args .index .now) (p .pre .1))
 
 returns : tie.Need-returns
 unfolding fromCompiled
@@ -51,7 +51,7 @@ returns-2 c =
     (rw e, rw e)
 
 same-length : tie.Need-same-length
-same-length c = c .before .before .give-spoken .kept .1 .1 .0
+same-length c = c .before .before .give-spoken .kept .1 .1 .1 .0
 
 returns-3 : tie.Need-returns-3
 unfolding fromCompiled

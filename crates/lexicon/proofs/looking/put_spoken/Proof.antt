@@ -2,7 +2,7 @@
 use Rattle.compiled.specs.Entries.{numbersOf, phonesOf as spokenOf, length-spoken, spoken-at, number-in, spoken-fits}
 use Rattle.cells.specs.Cells.{cellsOf, cell, cells-turn, cells-front}
 use Rattle.data.specs.Sections.{tablePhones}
-use Rattle.data.specs.Places.{PhoneAt, phone-placed}
+use Rattle.data.specs.Places.{PhoneAt, Placed, phone-placed}
 use Rattle.records.specs.Fields.{u32At}
 use Rattle.records.specs.Records.{putRecord}
 use native.Mathlib.Nat.{zero-add}
@@ -17,24 +17,18 @@ use Rattle.lexicon.proofs.looking.put_spoken.Statement.{statement}
 use Rattle.lexicon.proofs.looking.put_spoken.Tie as tie
 
 abbrev Inv-loop : tie.InvT-loop
-Inv-loop phones s out₀ places numbers i₀ out i =
+Inv-loop phones places s out₀ numbers i₀ out i =
     (numbers ≡ numbersOf s) × (i ≤ length numbers) × (out ≡ paste out₀ 0 (cellsOf (spokenOf phones s)) (16 * i)) × (length out ≡ length out₀)
 
 abbrev μ-loop : tie.MeasureT-loop
-μ-loop phones s out₀ places numbers i₀ out i = length numbers - i
-
-slice-aggregate-put-places : tie.Need-slice-aggregate-put-places Inv-loop μ-loop
-slice-aggregate-put-places c = search needs
-
-put-places-requires : tie.Need-put-places-requires Inv-loop μ-loop
-put-places-requires c κs = (c .before .before .before .before .pre .0, refl)
+μ-loop phones places s out₀ numbers i₀ out i = length numbers - i
 
 numbers-requires : tie.Need-numbers-requires Inv-loop μ-loop
 numbers-requires c κs = search needs
 
 loop-holds : tie.Need-loop-holds Inv-loop μ-loop
 loop-holds c =
-    let a = c .before .before .before .before .before .before .before .args in
+    let a = c .before .before .before .before .before .args in
     (c .numbers .ensures, zero-le, paste-zero (a .out .now) 0 (cellsOf (spokenOf (a .phones .now) (a .s .now))), refl)
 
 shared-slice-read-wide : tie.Need-shared-slice-read-wide Inv-loop μ-loop
@@ -46,39 +40,40 @@ wide-requires c κs = search needs
 mul-place : tie.Need-mul-place Inv-loop μ-loop
 mul-place c = omega (arith, c .wide .ensures .1)
 
-array-read-place : tie.Need-array-read-place Inv-loop μ-loop
-array-read-place c = omega (arith, c .wide .ensures .1)
+shared-slice-read-place : tie.Need-shared-slice-read-place Inv-loop μ-loop
+unfolding Placed
+shared-slice-read-place c = omega (arith, c .before .wide .ensures .1, c .before .before .before .before .before .before .before .before .before .before .pre .0 .0)
 
 -- number i is that of a phone, which stands at its place
-number : (c : tie.After-wide Inv-loop μ-loop) → c .wide .result ≡ getD (numbersOf (c .before .before .before .before .before .before .before .before .before .before .before .args .s .now)) (c .before .before .before .loop .i) 0
+number : (c : tie.After-wide Inv-loop μ-loop) → c .wide .result ≡ getD (numbersOf (c .before .before .before .before .before .before .before .before .before .args .s .now)) (c .before .before .before .loop .i) 0
 number c = c .wide .ensures .0 ∙ ap (λ (l : List ℕ). getD l (c .before .before .before .loop .i) 0) (c .before .before .before .loop .inv .0)
 
-inside : (c : tie.After-wide Inv-loop μ-loop) → c .before .before .before .loop .i < length (numbersOf (c .before .before .before .before .before .before .before .before .before .before .before .args .s .now))
+inside : (c : tie.After-wide Inv-loop μ-loop) → c .before .before .before .loop .i < length (numbersOf (c .before .before .before .before .before .before .before .before .before .args .s .now))
 inside c = let e = ap (λ (l : List ℕ). length l) (c .before .before .before .loop .inv .0) in omega arith
 
-placed : (c : tie.After-wide Inv-loop μ-loop) → PhoneAt (c .before .before .before .before .before .before .before .before .before .before .before .args .phones .now) (getD (c .before .before .before .before .before .before .put-places .last .1 .0) (c .wide .result) 0) (c .wide .result)
+placed : (c : tie.After-wide Inv-loop μ-loop) → PhoneAt (c .before .before .before .before .before .before .before .before .before .args .phones .now) (getD (c .before .before .before .before .before .before .before .before .before .args .places .now) (c .wide .result) 0) (c .wide .result)
 placed c =
-    let a = c .before .before .before .before .before .before .before .before .before .before .before in
-    let h : c .wide .result < u32At (a .args .phones .now) 0 = rw (number c) (number-in (a .args .phones .now) (a .args .s .now) (c .before .before .before .loop .i) (a .pre .1) (inside c)) in
-    phone-placed (a .args .phones .now) (c .before .before .before .before .before .before .put-places .last .1 .0) (c .wide .result) (a .pre .0) (c .before .before .before .before .before .before .put-places .ensures) h
+    let a = c .before .before .before .before .before .before .before .before .before in
+    let h : c .wide .result < u32At (a .args .phones .now) 0 = rw (number c) (number-in (a .args .phones .now) (a .args .s .now) (c .before .before .before .loop .i) (a .pre .1 .1) (inside c)) in
+    phone-placed (a .args .phones .now) (a .args .places .now) (c .wide .result) (a .pre .1 .0) (a .pre .0) h
 
 phone-at-requires : tie.Need-phone-at-requires Inv-loop μ-loop
-phone-at-requires c κs = placed (c .before) .fit
+phone-at-requires c κs = placed (c .before .before) .fit
 
-phone-is : (c : tie.After-phone-at Inv-loop μ-loop) → c .phone-at .result .now ≡ getD (spokenOf (c .before .before .before .before .before .before .before .before .before .before .before .before .before .args .phones .now) (c .before .before .before .before .before .before .before .before .before .before .before .before .before .args .s .now)) (c .before .before .before .before .before .loop .i) []
+phone-is : (c : tie.After-phone-at Inv-loop μ-loop) → c .phone-at .result .now ≡ getD (spokenOf (c .before .before .before .before .before .before .before .before .before .before .before .before .args .phones .now) (c .before .before .before .before .before .before .before .before .before .before .before .before .args .s .now)) (c .before .before .before .before .before .before .loop .i) []
 phone-is c =
-    let a = c .before .before .before .before .before .before .before .before .before .before .before .before .before .args in
-    let w = c .before .before in
-    c .phone-at .ensures ∙ sym (placed w .is) ∙ ap (λ (n : ℕ). getD (tablePhones (a .phones .now)) n []) (number w) ∙ sym (spoken-at (a .phones .now) (a .s .now) (c .before .before .before .before .before .loop .i) (inside w))
+    let a = c .before .before .before .before .before .before .before .before .before .before .before .before .args in
+    let w = c .before .before .before in
+    c .phone-at .ensures ∙ sym (placed w .is) ∙ ap (λ (n : ℕ). getD (tablePhones (a .phones .now)) n []) (number w) ∙ sym (spoken-at (a .phones .now) (a .s .now) (c .before .before .before .before .before .before .loop .i) (inside w))
 
 put-cell-requires : tie.Need-put-cell-requires Inv-loop μ-loop
 put-cell-requires c κs =
-    let p = c .before .before .before .before .before .before .before .before .before .before .before .before .before in
+    let p = c .before .before .before .before .before .before .before .before .before .before .before .before in
     let a = p .args in
     let l = length-spoken (a .phones .now) (a .s .now) in
-    let i = inside (c .before .before) in
-    let k = c .before .before .before .before .before .loop .inv .3 in
-    (omega (arith, p .pre .2), rw (phone-is c) (spoken-fits (a .phones .now) (a .s .now) (p .pre .0) (p .pre .1) (c .before .before .before .before .before .loop .i) (omega arith)))
+    let i = inside (c .before .before .before) in
+    let k = c .before .before .before .before .before .before .loop .inv .3 in
+    (omega (arith, p .pre .1 .2), rw (phone-is c) (spoken-fits (a .phones .now) (a .s .now) (p .pre .1 .0) (p .pre .1 .1) (c .before .before .before .before .before .before .loop .i) (omega arith)))
 
 add-i : tie.Need-add-i Inv-loop μ-loop
 add-i c = omega arith
@@ -88,15 +83,15 @@ loop-less c = omega arith
 
 loop-again : tie.Need-loop-again Inv-loop μ-loop
 loop-again c =
-    let q = c .before .before .before .before .before .before .before .before .before .before .before .before .before .before .before .before in
+    let q = c .before .before .before .before .before .before .before .before .before .before .before .before .before .before .before in
     let a = q .args in
-    let r = c .before .before .before .before .before .before .before .before .loop in
+    let r = c .before .before .before .before .before .before .before .before .before .loop in
     let l = length-spoken (a .phones .now) (a .s .now) in
-    let n = inside (c .before .before .before .before .before) in
+    let n = inside (c .before .before .before .before .before .before) in
     let e = ap (λ (l : List ℕ). length l) (r .inv .0) in
     let ps = spokenOf (a .phones .now) (a .s .now) in
     let p : List ℕ = getD ps (r .i) [] in
-    let t = cells-turn (a .out .now) ps 0 (r .i) (spoken-fits (a .phones .now) (a .s .now) (q .pre .0) (q .pre .1)) (omega arith) (omega (arith, q .pre .2)) in
+    let t = cells-turn (a .out .now) ps 0 (r .i) (spoken-fits (a .phones .now) (a .s .now) (q .pre .1 .0) (q .pre .1 .1)) (omega arith) (omega (arith, q .pre .1 .2)) in
     let u : putRecord 16 (paste (a .out .now) 0 (cellsOf ps) (16 * r .i)) (r .i) (cell p) ≡ paste (a .out .now) 0 (cellsOf ps) (16 * (r .i + 1)) =
     ap (λ (k : ℕ). putRecord 16 (paste (a .out .now) 0 (cellsOf ps) (16 * r .i)) k (cell p)) (sym (zero-add (r .i))) ∙ t in
     (r .inv .0, omega arith, c .before .before .put-cell .ensures ∙ rw (r .inv .2, phone-is (c .before .before .before)) u, c .before .before .put-cell .kept .0 ∙ r .inv .3)
@@ -106,11 +101,11 @@ same-length c = c .before .loop .inv .3
 
 returns : tie.Need-returns Inv-loop μ-loop
 returns c =
-    let p = c .before .before .before .before .before .before .before .before .before in
+    let p = c .before .before .before .before .before .before .before in
     let a = p .args in
     let l = length-spoken (a .phones .now) (a .s .now) in
     let e = ap (λ (l : List ℕ). length l) (c .before .loop .inv .0) in
-    c .before .loop .inv .2 ∙ cells-front (a .out .now) (spokenOf (a .phones .now) (a .s .now)) (c .before .loop .i) (spoken-fits (a .phones .now) (a .s .now) (p .pre .0) (p .pre .1)) (omega arith)
+    c .before .loop .inv .2 ∙ cells-front (a .out .now) (spokenOf (a .phones .now) (a .s .now)) (c .before .loop .i) (spoken-fits (a .phones .now) (a .s .now) (p .pre .1 .0) (p .pre .1 .1)) (omega arith)
 
 pub put-spoken-spec : {M : Type 1} → statement M
 put-spoken-spec =
@@ -118,14 +113,12 @@ put-spoken-spec =
     (tie.spec
     Inv-loop
     μ-loop
-    slice-aggregate-put-places
-    put-places-requires
     numbers-requires
     loop-holds
     shared-slice-read-wide
     wide-requires
     mul-place
-    array-read-place
+    shared-slice-read-place
     phone-at-requires
     put-cell-requires
     add-i
