@@ -7,13 +7,13 @@ use mathlib.Core.Bool.{true, false, _&&_}
 use mathlib.Core.List.{List, [], _∷_, _++_}
 use lib.Dec.{eqb, leb, ltb}
 use lib.ListN.{length, take, drop}
-use borrow.Author.Tests.{eq-eqb, ltb-false}
-use Rattle.texts.specs.Choice.{both-true, cases, never}
+use borrow.Author.Tests.{ltb-false}
+use Rattle.texts.specs.Choice.{both-true, cases}
 use Rattle.texts.specs.Lists.{every, place}
-use Rattle.texts.specs.Text.{ascii, isWord, is}
+use Rattle.texts.specs.Text.{ascii, isWord, is, ascii-take}
 use Rattle.data.specs.Sections.{isPhoneTable}
 use Rattle.lines.specs.Lines.{lines, content, field, isEmpty, fields, afterField}
-use Rattle.lines.specs.Ascii.{ascii-take, ascii-lines, ascii-content, ascii-field, ascii-after, ascii-stripped}
+use Rattle.lines.specs.Ascii.{ascii-lines, ascii-content, ascii-field, ascii-after, ascii-stripped}
 use Rattle.slots.specs.Slot.{Entry, Fits, folded-small}
 use Rattle.store.specs.Store.{entries, isSound}
 use Rattle.store.specs.Adding.{isFull, added}
@@ -26,25 +26,11 @@ use Rattle.addtext.specs.Call.{Filled, onward, filled, entriesOf, lineEn
 use Rattle.addtext.specs.Phones.{may-phones}
 use Rattle.addtext.specs.Line.{Line, skipped, faulty, entry, onContent, readLine, lineEntry, judged, outcome, onOutcome, behindLine, on-word, on-nothing}
 use Rattle.answers.specs.declared.Refusal.{Refusal}
-use Rattle.answers.specs.declared.Refusal.the-variants.{Section, Unsound, Text, Line as NoColon, UnknownPhone, Damaged, Phones, Full, Short}
+use Rattle.answers.specs.declared.Refusal.the-variants.{Text, UnknownPhone, Phones, Full}
 use Rattle.answers.specs.declared.Answer.{Answer}
 use Rattle.answers.specs.Told.{refusalNumber, refused, written}
+use Rattle.answers.specs.Numbers.{not-zero, refused-never}
 use Rattle.addtext.specs.declared.Outcome.the-variants.{Taken, Refused}
-
--- no refusal has the number 0
-not-zero : (r : Refusal) → eqb (refusalNumber r) 0 ≡ false
-not-zero Section = refl
-not-zero Unsound = refl
-not-zero Text = refl
-not-zero NoColon = refl
-not-zero UnknownPhone = refl
-not-zero Damaged = refl
-not-zero Phones = refl
-not-zero Full = refl
-not-zero Short = refl
-
-pub refused-never : {C : Type 0} (r : Refusal) → refusalNumber r ≡ 0 → C
-refused-never r h = never (eqb (refusalNumber r) 0) (eq-eqb (refusalNumber r) 0 h) (not-zero r)
 
 -- where the answer is a refusal, what was lent stays
 pub stays : (r : Refusal) (line : ℕ) (a : Answer) (before after : List ℕ) → refused (refusalNumber r) line ≡ a → written a before after ≡ before

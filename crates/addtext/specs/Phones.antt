@@ -78,9 +78,3 @@ may-phones table [] t h = refl
 may-phones table (p ∷ ps) t h =
     let b = both-true (mayAdd table p) (every (mayAdd table) ps) h in
     rw (may-phone table p t (b .0)) (may-phones table ps t (b .1))
-
-pub phone-short : (ps : List (List ℕ)) → every isPhone ps ≡ true → (i : ℕ) → i < length ps → length (getD ps i []) ≤ 15
-unfolding isPhone
-phone-short ps h i l =
-    let p = getD ps i [] in
-    leb-true (length p) 15 (both-true (leb (length p) 15) (ascii p) (every-at isPhone ps [] h i l) .0)

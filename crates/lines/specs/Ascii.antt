@@ -5,23 +5,11 @@ use mathlib.Core.Path.{_≡_, refl}
 use mathlib.Core.Bool.{true}
 use mathlib.Core.List.{List, [], _∷_}
 use lib.Dec.{eqb}
-use lib.ListN.{length, take, drop}
+use lib.ListN.{length, drop}
 use Rattle.texts.specs.Choice.{both-true, cases}
 use Rattle.texts.specs.Lists.{every, place}
-use Rattle.texts.specs.Text.{ascii, blank, is, low}
+use Rattle.texts.specs.Text.{ascii, blank, is, low, ascii-take, ascii-drop}
 use Rattle.lines.specs.Lines.{firstLine, afterLine, linesOf, lines, content, ink, inked, field, afterField, unquoted, onTail, openEnd, stripped}
-
-pub ascii-take : (n : ℕ) (s : List ℕ) → ascii s ≡ true → ascii (take n s) ≡ true
-unfolding ascii every
-ascii-take zero s h = refl
-ascii-take (suc n) [] h = refl
-ascii-take (suc n) (x ∷ xs) h = let b = both-true (low x) (every low xs) h in rw (b .0) (ascii-take n xs (b .1))
-
-pub ascii-drop : (n : ℕ) (s : List ℕ) → ascii s ≡ true → ascii (drop n s) ≡ true
-unfolding ascii every
-ascii-drop zero s h = h
-ascii-drop (suc n) [] h = refl
-ascii-drop (suc n) (x ∷ xs) h = let b = both-true (low x) (every low xs) h in ascii-drop n xs (b .1)
 
 pub ascii-line : (t : List ℕ) → ascii t ≡ true → ascii (firstLine t) ≡ true
 unfolding firstLine

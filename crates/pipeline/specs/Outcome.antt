@@ -10,18 +10,17 @@ use mathlib.Core.Option.{Option, none, some}
 use lib.Dec.{eqb, ltb}
 use lib.ListN.{length, take, drop, length-append}
 use Rattle.texts.specs.Choice.{cases}
-use Rattle.texts.specs.Text.{isPhone}
+use Rattle.texts.specs.Text.{isPhone, phone-short}
 use Rattle.texts.specs.Lists.{every}
 use Rattle.cells.specs.Cells.{phonesOf, cellsOf, length-cellsOf}
 use Rattle.slots.specs.Slot.{Entry}
 use Rattle.lts.specs.Letters.{letters}
 use Rattle.lexicon.specs.Lookup.{Finding, nothing, damaged, found, find, wantedTag}
-use Rattle.addtext.specs.Phones.{phone-short}
-use Rattle.addtext.specs.Accepted.{refused-never}
 use Rattle.utterance.specs.Append.{appended}
 use Rattle.answers.specs.declared.Answer.{Answer}
 use Rattle.answers.specs.declared.Refusal.{Refusal}
 use Rattle.answers.specs.Told.{refusalNumber, refused, accepted, written}
+use Rattle.answers.specs.Numbers.{refused-never}
 use Rattle.pipeline.specs.Pronounced.{Sections, Spoken, barred, phones, onFinding, pronounced, said}
 use Rattle.pipeline.specs.Cutting.{toldSpoken, cellsSpoken}
 use Rattle.pipeline.specs.BareCells.{front-phones}

@@ -11,8 +11,7 @@ use lib.ListN.{length, getD, take, drop, length-take, length-drop, length-append
 use borrow.Author.Tests.{leb-true, le-leb, leb-false}
 use Rattle.texts.specs.Choice.{both-true, cases}
 use Rattle.texts.specs.Lists.{every, first, place}
-use Rattle.texts.specs.Text.{bytes, folded, ascii, is, same, isPhone, phone-from}
-use Rattle.lines.specs.Ascii.{ascii-take, ascii-drop}
+use Rattle.texts.specs.Text.{bytes, folded, ascii, is, same, isPhone, phone-from, ascii-take, ascii-drop}
 use Rattle.records.specs.Records.{recordAt}
 use Rattle.records.specs.Fields.{u16At, u32At}
 use Rattle.records.specs.Chain.{All}

@@ -1,6 +1,6 @@
 -- Byte strings. 01, Lookup: case folding; Adding: blanks; What a call gives back: words and tags.
 -- Assumes nothing.
-use Prim.Native.Nat.{ℕ, _+_, _-_, _≤_, _<_}
+use Prim.Native.Nat.{ℕ, zero, suc, _+_, _-_, _≤_, _<_}
 use native.Mathlib.Omega.{arith}
 use Prim.Native.Char.{code}
 use Prim.Native.String.{String, [] as nil, _∷_ as _c∷_}
@@ -13,7 +13,7 @@ use lib.Seq.{drop-cons, take-append-seam}
 use native.Mathlib.Numerals.{add-one}
 use borrow.Author.Tests.{eqb-true, eq-eqb, ne-eqb, ltb-true, ltb-false, leb-true, le-leb}
 use Rattle.texts.specs.Choice.{if_then_else_, cases, both-true, never, is-false}
-use Rattle.texts.specs.Lists.{every, some}
+use Rattle.texts.specs.Lists.{every, every-at, some}
 
 -- the bytes of a quoted text
 abbrev pub bytes : String → List ℕ
@@ -131,3 +131,22 @@ word-short s h = leb-true (length s) 47 (both-true (leb (length s) 47) (ascii s)
 pub phone-from : (p : List ℕ) → length p ≤ 15 → ascii p ≡ true → isPhone p ≡ true
 unfolding isPhone
 phone-from p l a = rw (le-leb (length p) 15 l, a)
+
+pub phone-short : (ps : List (List ℕ)) → every isPhone ps ≡ true → (i : ℕ) → i < length ps → length (getD ps i []) ≤ 15
+unfolding isPhone
+phone-short ps h i l =
+    let p = getD ps i [] in
+    leb-true (length p) 15 (both-true (leb (length p) 15) (ascii p) (every-at isPhone ps [] h i l) .0)
+
+-- a part of a string below 128 is below 128
+pub ascii-take : (n : ℕ) (s : List ℕ) → ascii s ≡ true → ascii (take n s) ≡ true
+unfolding ascii every
+ascii-take zero s h = refl
+ascii-take (suc n) [] h = refl
+ascii-take (suc n) (x ∷ xs) h = let b = both-true (low x) (every low xs) h in rw (b .0) (ascii-take n xs (b .1))
+
+pub ascii-drop : (n : ℕ) (s : List ℕ) → ascii s ≡ true → ascii (drop n s) ≡ true
+unfolding ascii every
+ascii-drop zero s h = h
+ascii-drop (suc n) [] h = refl
+ascii-drop (suc n) (x ∷ xs) h = let b = both-true (low x) (every low xs) h in ascii-drop n xs (b .1)

@@ -8,9 +8,9 @@ use mathlib.Core.Logic.{inl, inr}
 use mathlib.Core.Bool.{true}
 use mathlib.Core.List.{List}
 use lib.ListN.{length, drop}
-use Rattle.texts.specs.Text.{ascii}
+use Rattle.texts.specs.Text.{ascii, ascii-drop}
 use Rattle.lines.specs.Lines.{firstLine, afterLine, lines}
-use Rattle.lines.specs.Ascii.{ascii-line, ascii-drop}
+use Rattle.lines.specs.Ascii.{ascii-line}
 use Rattle.store.specs.Store.{isSound}
 use Rattle.store.specs.Sound.{sound, is-sound}
 use Rattle.addtext.specs.Line.{readLine, behindLine}

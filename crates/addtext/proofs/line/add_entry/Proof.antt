@@ -1,10 +1,11 @@
 -- `addtext::line::add_entry` meets its contract: each return is decided by the first test of the definition that fails. Assumes nothing.
 use Rattle.addtext.specs.Line.{lineEntry, judged, onOutcome}
-use Rattle.addtext.specs.Phones.{may-phones, phone-short}
+use Rattle.addtext.specs.Phones.{may-phones}
 use Rattle.lexicon.specs.Adding.{mayAdd}
 use Rattle.store.specs.Adding.{isFull, kept}
 use Rattle.lines.specs.Lines.{fields}
 use Rattle.texts.specs.Lists.{every}
+use Rattle.texts.specs.Text.{phone-short}
 use Rattle.texts.specs.Choice.{both-true}
 use borrow.Author.Tests.{not-true, not-false, lt-ltb, le-ltb, leb-true}
 use lib.ListN.{length}

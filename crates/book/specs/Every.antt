@@ -30,14 +30,15 @@ use Rattle.utterance.specs.Append.{size}
 use Rattle.utterance.specs.Appended.{append-law, append-reads}
 use Rattle.utterance.specs.NewSheet.{new-sound, new-reads}
 use Rattle.answers.specs.declared.Answer.{Answer}
 use Rattle.pipeline.specs.Pronounced.{Sections, Spoken, barred, phones, pronounced, said}
 use Rattle.pipeline.specs.SayWord.{isCrowded, onSpoken as onSpokenAnswer, withSpoken, sayWord, sheetAfter}
-use Rattle.pipeline.specs.Calls.{Call, makeSheet, addsEntry, addsText, saysWord, Made, State, answer, step, isRefused, leaves, fresh}
-use Rattle.pipeline.specs.Book.{Book, empty, onSpoken, accepts, keeps, hears}
+use Rattle.book.specs.Calls.{Call, makeSheet, addsEntry, addsText, saysWord, Made, State, answer, step, isRefused, leaves, fresh}
+use Rattle.book.specs.Book.{Book, empty, onSpoken, accepts, keeps, hears}
 use Rattle.pipeline.specs.Sources.{entries-fit}
-use Rattle.pipeline.specs.Fits.{phones-said, pronounced-fits}
-use Rattle.pipeline.specs.WellCut.{WellCut, said-cut}
-use Rattle.pipeline.specs.Claim.{Each, Tells, tells}
+use Rattle.pipeline.specs.Fits.{pronounced-fits}
+use Rattle.book.specs.MayStand.{phones-said}
+use Rattle.book.specs.WellCut.{WellCut, said-cut}
+use Rattle.book.specs.Claim.{Each, Tells, tells}
 
 each-last : (P : Word → Type 0) (ws : List Word) (w : Word) → Each P ws → P w → Each P (ws ++ (w ∷ []))
 each-last P [] w h k = (k, tt)

@@ -1,0 +1,29 @@
+-- No refusal has the number 0.
+-- Assumes nothing.
+use Prim.Native.Nat.{ℕ}
+use native.Mathlib.Omega.{arith}
+use mathlib.Core.Path.{_≡_, refl}
+use mathlib.Core.Bool.{false}
+use lib.Dec.{eqb}
+use borrow.Author.Tests.{eq-eqb}
+use Rattle.answers.specs.declared.Refusal.{Refusal}
+use Rattle.answers.specs.declared.Refusal.the-variants.{Section, Unsound, Text, Line, UnknownPhone, Damaged, Phones, Full, Short}
+use Rattle.answers.specs.Told.{refusalNumber}
+
+pub not-zero : (r : Refusal) → eqb (refusalNumber r) 0 ≡ false
+not-zero Section = refl
+not-zero Unsound = refl
+not-zero Text = refl
+not-zero Line = refl
+not-zero UnknownPhone = refl
+not-zero Damaged = refl
+not-zero Phones = refl
+not-zero Full = refl
+not-zero Short = refl
+
+pub refused-never : {C : Type 0} (r : Refusal) → refusalNumber r ≡ 0 → C
+refused-never r h =
+    let e = eq-eqb (refusalNumber r) 0 h in
+    let n = not-zero r in
+    let z : _≡_ {A = ℕ} 0 1 = cc in
+    absurd (omega arith)
