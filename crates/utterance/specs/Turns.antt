@@ -1,11 +1,10 @@
--- One law for each turn, early end and end of the walks along a chain of items: what the items behind p say, told by those behind the next.
+-- One walk over the items in reading order decides whether each is well placed, each syllable has a phone and the phones are chained: one law for a turn, an early stop and the end, and one that it asks what `isSound` asks.
 -- Assumes nothing.
 use Prim.Native.Nat.{ℕ, zero, suc, _-_, _*_, _≤_, _<_}
 use native.Mathlib.Nat.{not-suc-le-zero}
 use native.Mathlib.Omega.{arith}
-use mathlib.Core.Path.{_≡_, refl, sym, ap, _∙_}
-use mathlib.Core.Logic.{_≢_}
-use mathlib.Core.Bool.{Bool, true, false, _&&_}
+use mathlib.Core.Path.{_≡_, refl, ap, _∙_}
+use mathlib.Core.Bool.{Bool, true, false, _&&_, and-true, and-false}
 use mathlib.Core.List.{List, _∷_}
 use lib.Dec.{eqb}
 use lib.ListN.{length, drop, length-drop}
@@ -13,32 +12,15 @@ use lib.Seq.{length-take-le}
 use Rattle.texts.specs.Choice.{if_then_else_, cases, never}
 use Rattle.texts.specs.Lists.{every}
 use Rattle.records.specs.Records.{recordAt}
-use Rattle.records.specs.Chain.{chain, chain-turn, chain-stop, chain-end}
+use Rattle.records.specs.Chain.{chain, chain-more}
 use Rattle.items.specs.Item.{Item}
-use Rattle.utterance.specs.Sheet.{at, items, after, isChained, isPlaced, walks}
+use Rattle.utterance.specs.Sheet.{at, used, items, after, isFull, isChained, isPlaced, walks, order}
+use Rattle.utterance.specs.Decided.{placed}
 
 -- an item of the sheet has 64 bytes
 pub length-itemAt : (b : List ℕ) (n : ℕ) → n < items b → length (recordAt 64 b n) ≡ 64
 unfolding recordAt
 length-itemAt b n h = length-take-le 64 (drop (64 * n) b) (rw length-drop (omega arith))
-
--- a test that each item of a chain passes
-module _ (f : ℕ → ℕ) (test : ℕ → Bool) where
-  pub each-turn : (left p q : ℕ) → 0 < left → q ≡ f p → q ≢ 0 → test q ≡ true → every test (chain f left p) ≡ every test (chain f (left - 1) q)
-  unfolding every
-  each-turn left p q h e n t = ap (every test) (chain-turn f left p q h e n) ∙ rw t
-
-  pub each-miss : (left p q : ℕ) → 0 < left → q ≡ f p → q ≢ 0 → test q ≡ false → every test (chain f left p) ≡ false
-  unfolding every
-  each-miss left p q h e n t = ap (every test) (chain-turn f left p q h e n) ∙ rw t
-
-  pub each-stop : (left p q : ℕ) → q ≡ f p → q ≡ 0 → every test (chain f left p) ≡ true
-  unfolding every
-  each-stop left p q e z = ap (every test) (chain-stop f left p (sym e ∙ z))
-
-  pub each-end : (left p : ℕ) → left ≤ 0 → every test (chain f left p) ≡ true
-  unfolding every
-  each-end left p h = ap (every test) (chain-end f left p h)
 
 -- an item x behind phone q: it is tied to q both ways if it is a phone; the phone that items behind it are tied to; and q as the last phone
 module _ (S : ℕ → Item) where
@@ -65,32 +47,52 @@ module _ (S : ℕ → Item) where
       (λ e. let u : (eqb (S q .follow) x && eqb (S x .prev) q) ≡ false = rw e at t in rw (e, u))
       (λ e. let u : true ≡ false = rw e at t in never true refl u)
 
-  pub chained-turn : (f : ℕ → ℕ) (left p q x : ℕ) → 0 < left → x ≡ f p → x ≢ 0 → isTied q x ≡ true → isChained S q (chain f left p) ≡ isChained S (lastPhone q x) (chain f (left - 1) x)
-  chained-turn f left p q x h e n t = ap (isChained S q) (chain-turn f left p x h e n) ∙ chained-tied q x (chain f (left - 1) x) t
+  -- an item met, full and tied leaves the items behind it to decide
+  met-tied : (q x : ℕ) (xs : List ℕ) (w o : Bool) → o ≡ (w && every (isFull S) xs && isChained S (lastPhone q x) xs)
+      → (isFull S x && isTied q x && o) ≡ (w && every (isFull S) (x ∷ xs) && isChained S q (x ∷ xs))
+  unfolding every
+  met-tied q x xs w o h =
+      cases (isFull S x)
+      (λ f. cases (isTied q x) (λ t. rw (f, t, chained-tied q x xs t) h) (λ t. rw (f, t, chained-loose q x xs t, and-false)))
+      (λ f. rw (f, and-false))
 
-  pub chained-miss : (f : ℕ → ℕ) (left p q x : ℕ) → 0 < left → x ≡ f p → x ≢ 0 → isTied q x ≡ false → isChained S q (chain f left p) ≡ false
-  chained-miss f left p q x h e n t = ap (isChained S q) (chain-turn f left p x h e n) ∙ chained-loose q x (chain f (left - 1) x) t
+-- the one walk: item x behind phone q is as it should be; behind item p and phone q stand n such items, and then nothing
+unfoldable pub isMet : List ℕ → ℕ → ℕ → Bool
+isMet b q x = isPlaced b x && (isFull (at b) x && isTied (at b) q x)
 
-  pub chained-stop : (f : ℕ → ℕ) (left p q x : ℕ) → x ≡ f p → x ≡ 0 → isChained S q (chain f left p) ≡ isLast q
-  unfolding isChained isLast
-  chained-stop f left p q x e z = ap (isChained S q) (chain-stop f left p (sym e ∙ z))
+unfoldable pub isOrdered : List ℕ → ℕ → ℕ → ℕ → Bool
+isOrdered b zero p q = eqb (after (at b) p) 0 && isLast (at b) q
+isOrdered b (suc n) p q = isMet b q (after (at b) p) && isOrdered b n (after (at b) p) (lastPhone (at b) q (after (at b) p))
 
-  pub chained-end : (f : ℕ → ℕ) (left p q : ℕ) → left ≤ 0 → isChained S q (chain f left p) ≡ isLast q
-  unfolding isChained isLast
-  chained-end f left p q h = ap (isChained S q) (chain-end f left p h)
-
--- the walk that counts
 module _ (b : List ℕ) where
-  pub walks-turn : (left p q : ℕ) → 0 < left → q ≡ after (at b) p → isPlaced b q ≡ true → walks b left p ≡ walks b (left - 1) q
-  unfolding walks
-  walks-turn zero p q h e t = absurd (not-suc-le-zero h)
-  walks-turn (suc left) p q h e t = let k : suc left - 1 ≡ left = omega arith in rw (k, ← e, t)
+  pub ordered-turn : (left p q x r : ℕ) → 0 < left → x ≡ after (at b) p → isMet b q x ≡ true → r ≡ lastPhone (at b) q x → isOrdered b left p q ≡ isOrdered b (left - 1) x r
+  unfolding isOrdered
+  ordered-turn zero p q x r h e t l = absurd (not-suc-le-zero h)
+  ordered-turn (suc left) p q x r h e t l = let k : suc left - 1 ≡ left = omega arith in rw (k, ← e, t, l)
 
-  pub walks-stop : (left p q : ℕ) → 0 < left → q ≡ after (at b) p → isPlaced b q ≡ false → walks b left p ≡ false
-  unfolding walks
-  walks-stop zero p q h e t = absurd (not-suc-le-zero h)
-  walks-stop (suc left) p q h e t = rw (← e, t)
+  pub ordered-stop : (left p q x : ℕ) → 0 < left → x ≡ after (at b) p → isMet b q x ≡ false → isOrdered b left p q ≡ false
+  unfolding isOrdered
+  ordered-stop zero p q x h e t = absurd (not-suc-le-zero h)
+  ordered-stop (suc left) p q x h e t = rw (← e, t)
 
-  pub walks-end : (left p : ℕ) → left ≤ 0 → walks b left p ≡ eqb (after (at b) p) 0
-  unfolding walks
-  walks-end left p h = let e : left ≡ 0 = omega arith in rw e
+  pub ordered-end : (left p q : ℕ) → left ≤ 0 → isOrdered b left p q ≡ (eqb (after (at b) p) 0 && isLast (at b) q)
+  unfolding isOrdered
+  ordered-end left p q h = let e : left ≡ 0 = omega arith in rw e
+
+  -- it asks what the walk, the syllables and the chain ask
+  pub ordered-is : (n p q : ℕ)
+      → isOrdered b n p q ≡ (walks b n p && every (isFull (at b)) (chain (after (at b)) n p) && isChained (at b) q (chain (after (at b)) n p))
+  unfolding isOrdered isMet walks chain every isChained isLast
+  ordered-is zero p q = rw and-true
+  ordered-is (suc n) p q =
+      let x = after (at b) p in
+      let ih = ordered-is n x (lastPhone (at b) q x) in
+      cases (isPlaced b x)
+      (λ e. rw (chain-more (after (at b)) n p (placed b x e .0 .real), e) (met-tied (at b) q x (chain (after (at b)) n x) (walks b n x) (isOrdered b n x (lastPhone (at b) q x)) ih))
+      (λ e. rw e)
+
+  -- behind item 0, beside a test that comes before
+  pub ordered-sound : (t : Bool) → (t && isOrdered b (used b) 0 0) ≡ (t && walks b (used b) 0 && every (isFull (at b)) (order b) && isChained (at b) 0 (order b))
+  unfolding order
+  ordered-sound true = ordered-is (used b) 0 0
+  ordered-sound false = refl

@@ -1,10 +1,9 @@
-// Walks over the items in reading order: whether all are met and well placed, whether each syllable has a phone, and
-// whether the phones are chained.
+// One walk over the items in reading order: whether all are met and well placed, each syllable has a phone, and the
+// phones are chained.
 ghost use mathlib.Core.Path.{_≡_};
 ghost use Prim.Native.Nat.{_<_};
-ghost use Rattle.texts.specs.Lists.{every};
-ghost use Rattle.utterance.specs.Sheet.{at, used as usedOf, items, isFull, isChained, isPlaced, walks, order};
-ghost use Rattle.utterance.specs.Turns.{isTied, lastPhone, isLast};
+ghost use Rattle.utterance.specs.Sheet.{at, used as usedOf, items, isPlaced};
+ghost use Rattle.utterance.specs.Turns.{isTied, lastPhone, isLast, isMet, isOrdered};
 use crate::fields::follow;
 use crate::fields::item;
 use crate::fields::kind;
@@ -30,42 +29,6 @@ fn is_placed(sheet: &[u8], i: u16) -> bool
         return false;
     }
     texts::both(is_parent(sheet, i), is_sibling(sheet, i))
-}
-
-// Whether as many items as are used stand behind item 0, each well placed, and then nothing.
-pub fn is_walked(sheet: &[u8]) -> bool
-    requires { ⌜ usedOf (now sheet) < items (now sheet) ⌝ }
-    ensures { λ r. ⌜ r ≡ walks (now (sheet .entry)) (usedOf (now (sheet .entry))) 0 ⌝ }
-{
-    let mut p = 0;
-    let mut left = used(sheet);
-    while 0 < left {
-        p = after(sheet, p);
-        if !is_placed(sheet, p) {
-            return false;
-        }
-        left -= 1;
-    }
-    after(sheet, p) == 0
-}
-
-// Whether each syllable has a phone.
-pub fn are_full(sheet: &[u8]) -> bool
-    ensures { λ r. ⌜ r ≡ every (isFull (at (now (sheet .entry)))) (order (now (sheet .entry))) ⌝ }
-{
-    let mut p = 0;
-    let mut left = used(sheet);
-    while 0 < left {
-        p = after(sheet, p);
-        if p == 0 {
-            return true;
-        }
-        if !is_full(sheet, p) {
-            return false;
-        }
-        left -= 1;
-    }
-    true
 }
 
 // Whether item x, behind phone q, is tied to it both ways if it is a phone.
@@ -98,23 +61,33 @@ fn is_last(sheet: &[u8], q: u16) -> bool
     prev(sheet, 0) == q
 }
 
-// Whether the phones are chained in reading order, both ways.
-pub fn are_chained(sheet: &[u8]) -> bool
-    ensures { λ r. ⌜ r ≡ isChained (at (now (sheet .entry))) 0 (order (now (sheet .entry))) ⌝ }
+// Whether item x, behind phone q, is well placed, has a phone if it is a syllable, and is tied to q if it is a phone.
+fn is_met(sheet: &[u8], q: u16, x: u16) -> bool
+    requires { ⌜ usedOf (now sheet) < items (now sheet) ⌝ }
+    ensures { λ r. ⌜ r ≡ isMet (now (sheet .entry)) q x ⌝ }
+{
+    if !is_placed(sheet, x) {
+        return false;
+    }
+    texts::both(is_full(sheet, x), is_tied(sheet, q, x))
+}
+
+// Whether as many items as are used stand behind item 0, and then nothing; each is met as it should be, and the last
+// phone is tied as the last.
+pub fn is_ordered(sheet: &[u8]) -> bool
+    requires { ⌜ usedOf (now sheet) < items (now sheet) ⌝ }
+    ensures { λ r. ⌜ r ≡ isOrdered (now (sheet .entry)) (usedOf (now (sheet .entry))) 0 0 ⌝ }
 {
     let mut p = 0;
     let mut q = 0;
     let mut left = used(sheet);
     while 0 < left {
         p = after(sheet, p);
-        if p == 0 {
-            return is_last(sheet, q);
-        }
-        if !is_tied(sheet, q, p) {
+        if !is_met(sheet, q, p) {
             return false;
         }
         q = last_phone(sheet, q, p);
         left -= 1;
     }
-    is_last(sheet, q)
+    texts::both(after(sheet, p) == 0, is_last(sheet, q))
 }

@@ -5,9 +5,7 @@ ghost use Rattle.utterance.specs.Sheet.{isSheetLength, isSound, newSheet
 use crate::fields::item;
 use crate::fields::used;
 use crate::links::is_parent;
-use crate::order::are_chained;
-use crate::order::are_full;
-use crate::order::is_walked;
+use crate::order::is_ordered;
 use answers::Done;
 use answers::Refusal;
 
@@ -34,9 +32,7 @@ pub fn is_sound(sheet: &[u8]) -> bool
     if sheet.len() / 64 <= used(sheet) as usize {
         return false;
     }
-    let tree = texts::both(is_parent(sheet, 0), is_walked(sheet));
-    let full = texts::both(tree, are_full(sheet));
-    texts::both(full, are_chained(sheet))
+    texts::both(is_parent(sheet, 0), is_ordered(sheet))
 }
 
 pub fn new_sheet(sheet: &mut [u8]) -> Done

@@ -12,8 +12,8 @@ use lib.ListN.{length}
 use Rattle.texts.specs.Choice.{both-true}
 use Rattle.records.specs.Records.{recordAt}
 use Rattle.items.specs.Item.{isHead}
-use Rattle.utterance.specs.Sheet.{used, items, isSheetLength, isSound}
-use Rattle.utterance.specs.Turns.{length-itemAt}
+use Rattle.utterance.specs.Sheet.{at, used, items, isSheetLength, isParent, isSound}
+use Rattle.utterance.specs.Turns.{length-itemAt, ordered-sound}
 use Rattle.utterance.proofs.sound.is_sound.Tie as tie
 
 fitting : (c : tie.Else1) → isSheetLength (length (c .before .before .before .args .sheet .now)) ≡ true
@@ -62,32 +62,20 @@ returns-3 c =
 is-parent-requires : tie.Need-is-parent-requires
 is-parent-requires c κs = search needs
 
-is-walked-requires : tie.Need-is-walked-requires
-is-walked-requires c κs =
+is-ordered-requires : tie.Need-is-ordered-requires
+is-ordered-requires c κs =
     let e = c .before .before .used .ensures in
     omega arith
 
 both-requires : tie.Need-both-requires
 both-requires c κs = search needs
 
-are-full-requires : tie.Need-are-full-requires
-are-full-requires c κs = search needs
-
-both-requires-2 : tie.Need-both-requires-2
-both-requires-2 c κs = search needs
-
-are-chained-requires : tie.Need-are-chained-requires
-are-chained-requires c κs = search needs
-
-both-requires-3 : tie.Need-both-requires-3
-both-requires-3 c κs = search needs
-
 returns-4 : tie.Need-returns-4
 unfolding isSound
 returns-4 c =
-    let b = c .before .before .before .before .before .before .before .before .before .before .before .before .before .before .before .args .sheet .now in
-    let e = c .before .before .before .before .before .before .before .before .used .ensures in
-    rw (fitting ((c .before .before .before .before .before .before .before .before .before .before .before .before)), headed ((c .before .before .before .before .before .before .before .before .before)), lt-ltb (used b) (items b) (omega arith), ← c .before .before .before .before .before .before .is-parent .ensures, ← c .before .before .before .before .before .is-walked .ensures, ← c .before .before .before .are-full .ensures, ← c .before .are-chained .ensures, ← c .before .before .before .before .both .ensures, ← c .before .before .both2 .ensures) (c .both3 .ensures)
+    let b = c .before .before .before .before .before .before .before .before .before .before .before .args .sheet .now in
+    let e = c .before .before .before .before .used .ensures in
+    rw (fitting ((c .before .before .before .before .before .before .before .before)), headed ((c .before .before .before .before .before)), lt-ltb (used b) (items b) (omega arith), ← ordered-sound b (isParent (at b) 0), ← c .before .before .is-parent .ensures, ← c .before .is-ordered .ensures) (c .both .ensures)
 
 pub is-sound-spec : {M : Type 1} → statement M
 is-sound-spec =
@@ -102,10 +90,6 @@ is-sound-spec =
     cast-if3
     returns-3
     is-parent-requires
-    is-walked-requires
+    is-ordered-requires
     both-requires
-    are-full-requires
-    both-requires-2
-    are-chained-requires
-    both-requires-3
     returns-4)

@@ -1,0 +1,33 @@
+-- `utterance::is_met` meets its contract: an item that is ill placed decides, else its phone and its tie. Assumes nothing.
+use borrow.Author.Needs.{needs}
+use Rattle.utterance.proofs.order.is_met.Statement.{statement}
+use borrow.Author.Tests.{not-true, not-false}
+use mathlib.Core.Path.{sym, _∙_}
+use Rattle.utterance.specs.Turns.{isMet}
+use Rattle.utterance.proofs.order.is_met.Tie as tie
+
+is-placed-requires : tie.Need-is-placed-requires
+is-placed-requires c κs = search needs
+
+returns : tie.Need-returns
+unfolding isMet
+returns c = rw (sym (c .before .is-placed .ensures) ∙ not-true (c .before .is-placed .result) (c .if1 .taken))
+
+is-full-requires : tie.Need-is-full-requires
+is-full-requires c κs = search needs
+
+is-tied-requires : tie.Need-is-tied-requires
+is-tied-requires c κs = search needs
+
+both-requires : tie.Need-both-requires
+both-requires c κs = search needs
+
+returns-2 : tie.Need-returns-2
+unfolding isMet
+returns-2 c =
+    rw (sym (c .before .before .before .before .is-placed .ensures) ∙ not-false (c .before .before .before .before .is-placed .result) (c .before .before .before .if1 .left), ← c .before .before .is-full .ensures, ← c .before .is-tied .ensures) (c .both .ensures)
+
+pub is-met-spec : {M : Type 1} → statement M
+is-met-spec =
+    tie.close
+    (tie.spec is-placed-requires returns is-full-requires is-tied-requires both-requires returns-2)
