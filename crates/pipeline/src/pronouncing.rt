@@ -3,6 +3,7 @@ ghost use mathlib.Core.Path.{_≡_};
 ghost use mathlib.Core.Bool.{true};
 ghost use Prim.Native.Nat.{_≤_};
 ghost use lib.ListN.{length};
+ghost use Rattle.data.specs.Places.{Placed};
 ghost use Rattle.store.specs.Store.{isSound, entries};
 ghost use Rattle.compiled.specs.Call.{isLexicon};
 ghost use Rattle.lts.specs.Letters.{isTrees, letters};
@@ -17,29 +18,34 @@ use answers::Predicted;
 fn spoken(
     looked: Looked,
     phones: &[u8],
+    places: &[u16],
     index: &[u8],
     model: &[u8],
     word: &[u8],
     room: &mut [u8],
 ) -> Predicted
     requires { ⌜ (isTrees (now phones) (now index) (now model) ≡ true) × (length (now word) ≤ 47) ⌝ }
+    requires { ⌜ Placed (now phones) (now places) ⌝ }
     ensures { λ r. ⌜ toldPredicted r ≡ toldBehind looked (letters (now (phones .entry)) (now (index .entry)) (now (model .entry)) (now (word .entry))) (now (room .entry)) ⌝ }
     ensures { λ _. ⌜ now (room .exit) ≡ roomBehind looked (letters (now (phones .entry)) (now (index .entry)) (now (model .entry)) (now (word .entry))) (now (room .entry)) ⌝ }
 {
     let Looked::Found(_source, n) = looked else {
         let mut list = [0u8; 1504];
-        return lts::spell_out(phones, index, model, word, &mut list, room);
+        return lts::spell_out(phones, places, index, model, word, &mut list, room);
     };
     Predicted::Phones(n)
 }
 
 // The phones of a word as cells at the front of a room of 96, by the three sections of the lexicon and
-// the three of the letter trees (sounds is lts.phones, starts lts.index). A refused lookup refuses the word.
+// the three of the letter trees (sounds is lts.phones, starts lts.index); places and spots are those of their tables'
+// phones. A refused lookup refuses the word.
 pub fn pronounce(
     phones: &[u8],
+    places: &[u16],
     index: &[u8],
     dat: &[u8],
     sounds: &[u8],
+    spots: &[u16],
     starts: &[u8],
     model: &[u8],
     store: &[u8],
@@ -49,11 +55,13 @@ pub fn pronounce(
 ) -> Predicted
     requires { ⌜ (isLexicon (now phones) (now index) ≡ true) × (isTrees (now sounds) (now starts) (now model) ≡ true) ⌝ }
     requires { ⌜ (isSound (now store) ≡ true) × (length (now word) ≤ 47) × (length (now room) ≡ 1536) ⌝ }
+    requires { ⌜ Placed (now phones) (now places) × Placed (now sounds) (now spots) ⌝ }
     ensures { λ r. ⌜ toldPredicted r ≡ toldSpoken (pronounced (record { lexPhones = now (phones .entry); lexIndex = now (index .entry); lexData = now (dat .entry); ltsPhones = now (sounds .entry); ltsIndex = now (starts .entry); ltsModel = now (model .entry) }) (entries (now (store .entry))) (now (word .entry)) (now (tag .entry))) ⌝ }
     ensures { λ _. ⌜ now (room .exit) ≡ cellsSpoken (pronounced (record { lexPhones = now (phones .entry); lexIndex = now (index .entry); lexData = now (dat .entry); ltsPhones = now (sounds .entry); ltsIndex = now (starts .entry); ltsModel = now (model .entry) }) (entries (now (store .entry))) (now (word .entry)) (now (tag .entry))) (now (room .entry)) ⌝ }
 {
     let looked = lexicon::find(
         phones,
+        places,
         index,
         dat,
         store,
@@ -63,6 +71,6 @@ pub fn pronounce(
     );
     match looked {
         Looked::Refused(r) => Predicted::Refused(r),
-        _ => spoken(looked, sounds, starts, model, word, room),
+        _ => spoken(looked, sounds, spots, starts, model, word, room),
     }
 }

@@ -1,9 +1,10 @@
 // say word (01, Store and sheet): a word pronounced and put last on the sheet.
 ghost use mathlib.Core.Path.{_≡_};
-ghost use mathlib.Core.Bool.{true};
+ghost use mathlib.Core.Bool.{true, _&&_};
 ghost use Prim.Native.Nat.{_*_, _/_, _≤_};
 ghost use lib.ListN.{length};
 ghost use Rattle.cells.specs.Cells.{phonesOf};
+ghost use Rattle.data.specs.Places.{Placed};
 ghost use Rattle.store.specs.Store.{entries, isSound};
 ghost use Rattle.compiled.specs.Call.{isLexicon};
 ghost use Rattle.lts.specs.Letters.{isTrees};
@@ -60,9 +61,11 @@ fn put(sheet: &mut [u8], word: &[u8], phones: &[u8]) -> Said
 // A word pronounced and put last; room is for its phones.
 fn say(
     phones: &[u8],
+    places: &[u16],
     index: &[u8],
     dat: &[u8],
     sounds: &[u8],
+    spots: &[u16],
     starts: &[u8],
     model: &[u8],
     store: &[u8],
@@ -73,14 +76,17 @@ fn say(
 ) -> Said
     requires { ⌜ (isLexicon (now phones) (now index) ≡ true) × (isTrees (now sounds) (now starts) (now model) ≡ true) ⌝ }
     requires { ⌜ (isSound (now store) ≡ true) × (isSheet (now sheet) ≡ true) × (length (now word) ≤ 47) × (length (now room) ≡ 1536) ⌝ }
+    requires { ⌜ Placed (now phones) (now places) × Placed (now sounds) (now spots) ⌝ }
     ensures { λ r. ⌜ toldSaid r ≡ onSpoken (now (sheet .entry)) (now (word .entry)) (pronounced (record { lexPhones = now (phones .entry); lexIndex = now (index .entry); lexData = now (dat .entry); ltsPhones = now (sounds .entry); ltsIndex = now (starts .entry); ltsModel = now (model .entry) }) (entries (now (store .entry))) (now (word .entry)) (now (tag .entry))) ⌝ }
     ensures { λ _. ⌜ now (sheet .exit) ≡ written (onSpoken (now (sheet .entry)) (now (word .entry)) (pronounced (record { lexPhones = now (phones .entry); lexIndex = now (index .entry); lexData = now (dat .entry); ltsPhones = now (sounds .entry); ltsIndex = now (starts .entry); ltsModel = now (model .entry) }) (entries (now (store .entry))) (now (word .entry)) (now (tag .entry)))) (now (sheet .entry)) (withSpoken (now (sheet .entry)) (now (word .entry)) (pronounced (record { lexPhones = now (phones .entry); lexIndex = now (index .entry); lexData = now (dat .entry); ltsPhones = now (sounds .entry); ltsIndex = now (starts .entry); ltsModel = now (model .entry) }) (entries (now (store .entry))) (now (word .entry)) (now (tag .entry)))) ⌝ }
 {
     match pronouncing::pronounce(
         phones,
+        places,
         index,
         dat,
         sounds,
+        spots,
         starts,
         model,
         store,
@@ -91,6 +97,26 @@ fn say(
         Predicted::Refused(r) => Said::Refused(r),
         Predicted::Phones(n) => put(sheet, word, records::head(room, 16 * n)),
     }
+}
+
+// Whether the sections have their form; the places of their tables' phones, if they have.
+fn read_sections(
+    phones: &[u8],
+    index: &[u8],
+    sounds: &[u8],
+    starts: &[u8],
+    model: &[u8],
+    places: &mut [u16],
+    spots: &mut [u16],
+) -> bool
+    requires { ⌜ (length (now places) ≡ 256) × (length (now spots) ≡ 256) ⌝ }
+    ensures { λ r. ⌜ r ≡ (isLexicon (now (phones .entry)) (now (index .entry)) && isTrees (now (sounds .entry)) (now (starts .entry)) (now (model .entry))) ⌝ }
+    ensures { λ r. ⌜ (r ≡ true → Placed (now (phones .entry)) (now (places .exit)) × Placed (now (sounds .entry)) (now (spots .exit))) ⌝ }
+{
+    if !compiled::read_lexicon(phones, index, places) {
+        return false;
+    }
+    lts::read_trees(sounds, starts, model, spots)
 }
 
 pub fn say_word(
@@ -108,9 +134,16 @@ pub fn say_word(
     ensures { λ r. ⌜ toldSaid r ≡ sayWord (record { lexPhones = now (phones .entry); lexIndex = now (index .entry); lexData = now (dat .entry); ltsPhones = now (sounds .entry); ltsIndex = now (starts .entry); ltsModel = now (model .entry) }) (now (store .entry)) (now (sheet .entry)) (now (word .entry)) (now (tag .entry)) ⌝ }
     ensures { λ _. ⌜ now (sheet .exit) ≡ sheetAfter (record { lexPhones = now (phones .entry); lexIndex = now (index .entry); lexData = now (dat .entry); ltsPhones = now (sounds .entry); ltsIndex = now (starts .entry); ltsModel = now (model .entry) }) (now (store .entry)) (now (sheet .entry)) (now (word .entry)) (now (tag .entry)) ⌝ }
 {
-    if !texts::both(
-        compiled::is_lexicon(phones, index),
-        lts::are_trees(sounds, starts, model),
+    let mut places = [0u16; 256];
+    let mut spots = [0u16; 256];
+    if !read_sections(
+        phones,
+        index,
+        sounds,
+        starts,
+        model,
+        &mut places,
+        &mut spots,
     ) {
         return Said::Refused(Refusal::Section);
     }
@@ -123,9 +156,11 @@ pub fn say_word(
     let mut room = [0u8; 1536];
     say(
         phones,
+        &places,
         index,
         dat,
         sounds,
+        &spots,
         starts,
         model,
         store,

@@ -21,9 +21,9 @@ use Rattle.answers.proofs.Looked as looked
 use Rattle.pipeline.proofs.pronouncing.pronounce.Tie as tie
 
 abbrev finding : tie.After-find → Finding
-finding c = let a = c .before .before .before .before .before .before .before .before .before .before .before .before .before .args in find (entries (a .store .now)) (a .phones .now) (a .index .now) (a .dat .now) (a .word .now) (wantedTag (a .tag .now))
+finding c = let a = c .before .before .before .before .before .before .before .before .before .before .before .before .before .before .before .args in find (entries (a .store .now)) (a .phones .now) (a .index .now) (a .dat .now) (a .word .now) (wantedTag (a .tag .now))
 
-told : (c : tie.After-find) → (toldLooked (c .find .result) ≡ toldFinding (finding c) (c .before .before .before .before .before .before .before .before .before .before .before .before .before .args .room .now)) × (c .find .last .1 .1 .1 .1 .1 .1 .0 ≡ outFinding (finding c) (c .before .before .before .before .before .before .before .before .before .before .before .before .before .args .room .now))
+told : (c : tie.After-find) → (toldLooked (c .find .result) ≡ toldFinding (finding c) (c .before .before .before .before .before .before .before .before .before .before .before .before .before .before .before .args .room .now)) × (c .find .last .1 .1 .1 .1 .1 .1 .1 .0 ≡ outFinding (finding c) (c .before .before .before .before .before .before .before .before .before .before .before .before .before .before .before .args .room .now))
 unfolding wantedTag
 told c = rw (← c .before .before .first-or-any .ensures) (c .find .ensures)
 
@@ -50,9 +50,9 @@ same-length c = search needs
 returns : tie.Need-returns
 unfolding pronounced
 returns c =
-    let a = c .before .before .before .before .before .before .before .before .before .before .before .before .before .before .before .before .before .before .args in
+    let a = c .before .before .before .before .before .before .before .before .before .before .before .before .before .before .before .before .before .before .before .before .args in
     let t = told (c .before .before .before .before .before) in
-    let d = lookup-refused (finding (c .before .before .before .before .before)) (letters (a .sounds .now) (a .starts .now) (a .model .now) (a .word .now)) (a .room .now) (c .before .before .before .before .before .before .before .before .before .before .before .before .before .before .before .before .before .before .pre .1 .2) (c .before .looked .given .0 .0) (ap toldLooked (sym (c .before .looked .given .1)) ∙ t .0) in
+    let d = lookup-refused (finding (c .before .before .before .before .before)) (letters (a .sounds .now) (a .starts .now) (a .model .now) (a .word .now)) (a .room .now) (c .before .before .before .before .before .before .before .before .before .before .before .before .before .before .before .before .before .before .before .before .pre .1 .0 .2) (c .before .looked .given .0 .0) (ap toldLooked (sym (c .before .looked .given .1)) ∙ t .0) in
     (d .0, t .1 ∙ d .1)
 
 same-length-2 : tie.Need-same-length-2
@@ -61,10 +61,10 @@ same-length-2 c = search needs
 returns-2 : tie.Need-returns-2
 unfolding pronounced
 returns-2 c =
-    let a = c .before .before .before .before .before .before .before .before .before .before .before .before .before .before .before .before .before .before .before .before .args in
+    let a = c .before .before .before .before .before .before .before .before .before .before .before .before .before .before .before .before .before .before .before .before .before .before .args in
     let t = told (c .before .before .before .before .before .before .before) in
     let o = letters (a .sounds .now) (a .starts .now) (a .model .now) (a .word .now) in
-    let d = lookup-followed (finding (c .before .before .before .before .before .before .before)) (length (a .word .now)) o (a .room .now) (c .before .before .before .before .before .before .before .before .before .before .before .before .before .before .before .before .before .before .before .before .pre .1 .2) (c .before .before .before .before .before .before .before .before .before .before .before .before .before .before .before .before .before .before .before .before .pre .1 .1) (letters-few (a .sounds .now) (a .starts .now) (a .model .now) (a .word .now)) (c .before .before .before .before .before .before .before .find .result) (not-refused (c .before .before .before .before .before .before .before .find .result) (c .before .before .before .before .match .keys2)) (t .0) in
+    let d = lookup-followed (finding (c .before .before .before .before .before .before .before)) (length (a .word .now)) o (a .room .now) (c .before .before .before .before .before .before .before .before .before .before .before .before .before .before .before .before .before .before .before .before .before .before .pre .1 .0 .2) (c .before .before .before .before .before .before .before .before .before .before .before .before .before .before .before .before .before .before .before .before .before .before .pre .1 .0 .1) (letters-few (a .sounds .now) (a .starts .now) (a .model .now) (a .word .now)) (c .before .before .before .before .before .before .before .find .result) (not-refused (c .before .before .before .before .before .before .before .find .result) (c .before .before .before .before .match .keys2)) (t .0) in
     let r = t .1 in
     (c .before .before .spoken .ensures .0 ∙ rw r (d .0), c .before .before .spoken .ensures .1 ∙ rw r (d .1))
 

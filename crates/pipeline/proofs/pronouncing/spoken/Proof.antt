@@ -35,7 +35,7 @@ same-length c = search needs
 
 returns : tie.Need-returns
 returns c =
-    let d = no-source (c .before .before .before .before .before .before .before .before .before .before .before .before .args .looked) _ (c .before .before .before .before .before .before .before .before .before .before .before .before .args .room .now) (c .before .before .before .before .before .before .match .keys2) in
+    let d = no-source (c .before .before .before .before .before .before .before .before .before .before .before .before .before .args .looked) _ (c .before .before .before .before .before .before .before .before .before .before .before .before .before .args .room .now) (c .before .before .before .before .before .before .match .keys2) in
     (c .before .before .before .spell-out .ensures .0 ∙ d .0, c .before .before .before .spell-out .ensures .1 ∙ d .1)
 
 returns-2 : tie.Need-returns-2
