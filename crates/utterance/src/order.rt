@@ -4,11 +4,11 @@ ghost use mathlib.Core.Path.{_≡_};
 ghost use Prim.Native.Nat.{_<_};
 ghost use Rattle.utterance.specs.Sheet.{at, used as usedOf, items, isPlaced};
 ghost use Rattle.utterance.specs.Turns.{isTied, lastPhone, isLast, isMet, isOrdered};
-use crate::fields::follow;
-use crate::fields::item;
-use crate::fields::kind;
-use crate::fields::prev;
 use crate::fields::used;
+use crate::inside::follow;
+use crate::inside::item;
+use crate::inside::kind;
+use crate::inside::prev;
 use crate::links::after;
 use crate::links::is_full;
 use crate::links::is_parent;
@@ -33,6 +33,7 @@ fn is_placed(sheet: &[u8], i: u16) -> bool
 
 // Whether item x, behind phone q, is tied to it both ways if it is a phone.
 fn is_tied(sheet: &[u8], q: u16, x: u16) -> bool
+    requires { ⌜ (q < items (now sheet)) × (x < items (now sheet)) ⌝ }
     ensures { λ r. ⌜ r ≡ isTied (at (now (sheet .entry))) q x ⌝ }
 {
     if kind(sheet, x) != 3 {
@@ -46,6 +47,7 @@ fn is_tied(sheet: &[u8], q: u16, x: u16) -> bool
 
 // The last phone once item x is passed, where it was q before.
 fn last_phone(sheet: &[u8], q: u16, x: u16) -> u16
+    requires { ⌜ x < items (now sheet) ⌝ }
     ensures { λ r. ⌜ r ≡ lastPhone (at (now (sheet .entry))) q x ⌝ }
 {
     if kind(sheet, x) == 3 { x } else { q }
@@ -53,6 +55,7 @@ fn last_phone(sheet: &[u8], q: u16, x: u16) -> u16
 
 // Whether phone q, or item 0, is tied as the last.
 fn is_last(sheet: &[u8], q: u16) -> bool
+    requires { ⌜ q < items (now sheet) ⌝ }
     ensures { λ r. ⌜ r ≡ isLast (at (now (sheet .entry))) q ⌝ }
 {
     if follow(sheet, q) != 0 {
@@ -63,7 +66,7 @@ fn is_last(sheet: &[u8], q: u16) -> bool
 
 // Whether item x, behind phone q, is well placed, has a phone if it is a syllable, and is tied to q if it is a phone.
 fn is_met(sheet: &[u8], q: u16, x: u16) -> bool
-    requires { ⌜ usedOf (now sheet) < items (now sheet) ⌝ }
+    requires { ⌜ (usedOf (now sheet) < items (now sheet)) × (q < items (now sheet)) ⌝ }
     ensures { λ r. ⌜ r ≡ isMet (now (sheet .entry)) q x ⌝ }
 {
     if !is_placed(sheet, x) {

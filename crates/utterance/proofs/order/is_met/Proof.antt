@@ -1,10 +1,17 @@
 -- `utterance::is_met` meets its contract: an item that is ill placed decides, else its phone and its tie. Assumes nothing.
 use borrow.Author.Needs.{needs}
 use Rattle.utterance.proofs.order.is_met.Statement.{statement}
+use Prim.Native.Nat.{_<_}
 use borrow.Author.Tests.{not-true, not-false}
 use mathlib.Core.Path.{sym, _∙_}
-use Rattle.utterance.specs.Turns.{isMet}
+use Rattle.utterance.specs.Sheet.{items}
+use Rattle.utterance.specs.Turns.{isMet, placed-inside}
 use Rattle.utterance.proofs.order.is_met.Tie as tie
+
+in-sheet : (c : tie.Else1) → c .before .before .before .args .x < items (c .before .before .before .args .sheet .now)
+in-sheet c =
+    let a = c .before .before .before .args in
+    placed-inside (a .sheet .now) (a .x) (c .before .before .before .pre .0) (sym (c .before .is-placed .ensures) ∙ not-false (c .before .is-placed .result) (c .if1 .left))
 
 is-placed-requires : tie.Need-is-placed-requires
 is-placed-requires c κs = search needs
@@ -14,10 +21,10 @@ unfolding isMet
 returns c = rw (sym (c .before .is-placed .ensures) ∙ not-true (c .before .is-placed .result) (c .if1 .taken))
 
 is-full-requires : tie.Need-is-full-requires
-is-full-requires c κs = search needs
+is-full-requires c κs = in-sheet c
 
 is-tied-requires : tie.Need-is-tied-requires
-is-tied-requires c κs = search needs
+is-tied-requires c κs = (c .before .before .before .before .pre .1, in-sheet (c .before))
 
 both-requires : tie.Need-both-requires
 both-requires c κs = search needs
