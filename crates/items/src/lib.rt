@@ -162,7 +162,10 @@ pub fn is_item(item: &[u8]) -> bool
     requires { ⌜ length (now item) ≡ 64 ⌝ }
     ensures { λ r. ⌜ r ≡ isItem (now (item .entry)) ⌝ }
 {
-    texts::both(is_clean(item), is_fit(item))
+    if !is_clean(item) {
+        return false;
+    }
+    is_fit(item)
 }
 
 // Whether item 0 is sound by itself.

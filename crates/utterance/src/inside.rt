@@ -3,7 +3,7 @@ ghost use mathlib.Core.Path.{_≡_};
 ghost use Prim.Native.Nat.{_<_};
 ghost use Rattle.records.specs.Fields.{u16At};
 ghost use Rattle.records.specs.Records.{recordAt};
-ghost use Rattle.utterance.specs.Sheet.{at, items};
+ghost use Rattle.utterance.specs.Sheet.{at, items, used as usedOf};
 
 // The bytes of item n.
 pub fn item(sheet: &[u8], n: u16) -> &[u8]
@@ -74,4 +74,12 @@ pub fn follow(sheet: &[u8], n: u16) -> u16
     ensures { λ r. ⌜ r ≡ at (now (sheet .entry)) n .follow ⌝ }
 {
     field(sheet, n, 12)
+}
+
+// How many items are used.
+pub fn used(sheet: &[u8]) -> u16
+    requires { ⌜ 0 < items (now sheet) ⌝ }
+    ensures { λ r. ⌜ r ≡ usedOf (now (sheet .entry)) ⌝ }
+{
+    parent(sheet, 0)
 }

@@ -4,11 +4,11 @@ ghost use mathlib.Core.Path.{_≡_};
 ghost use Prim.Native.Nat.{_<_};
 ghost use Rattle.utterance.specs.Sheet.{at, used as usedOf, items, isPlaced};
 ghost use Rattle.utterance.specs.Turns.{isTied, lastPhone, isLast, isMet, isOrdered};
-use crate::fields::used;
 use crate::inside::follow;
 use crate::inside::item;
 use crate::inside::kind;
 use crate::inside::prev;
+use crate::inside::used;
 use crate::links::after;
 use crate::links::is_full;
 use crate::links::is_parent;
@@ -84,13 +84,15 @@ pub fn is_ordered(sheet: &[u8]) -> bool
     let mut p = 0;
     let mut q = 0;
     let mut left = used(sheet);
-    while 0 < left {
+    loop {
         p = after(sheet, p);
+        if left == 0 {
+            return texts::both(p == 0, is_last(sheet, q));
+        }
         if !is_met(sheet, q, p) {
             return false;
         }
         q = last_phone(sheet, q, p);
         left -= 1;
     }
-    texts::both(after(sheet, p) == 0, is_last(sheet, q))
 }
