@@ -28,7 +28,10 @@ fn is_placed(sheet: &[u8], i: u16) -> bool
     if !items::is_item(item(sheet, i)) {
         return false;
     }
-    texts::both(is_parent(sheet, i), is_sibling(sheet, i))
+    if !is_parent(sheet, i) {
+        return false;
+    }
+    is_sibling(sheet, i)
 }
 
 // Whether item x, behind phone q, is tied to it both ways if it is a phone.
@@ -72,7 +75,10 @@ fn is_met(sheet: &[u8], q: u16, x: u16) -> bool
     if !is_placed(sheet, x) {
         return false;
     }
-    texts::both(is_full(sheet, x), is_tied(sheet, q, x))
+    if !is_full(sheet, x) {
+        return false;
+    }
+    is_tied(sheet, q, x)
 }
 
 // Whether as many items as are used stand behind item 0, and then nothing; each is met as it should be, and the last
