@@ -52,13 +52,14 @@ pub fn text(item: &[u8]) -> &[u8]
 
 // Whether the text has its place and the bytes past it are zero.
 fn is_clean(item: &[u8]) -> bool
+    requires { ⌜ length (now item) ≡ 64 ⌝ }
     ensures { λ r. ⌜ r ≡ isClean (now (item .entry)) ⌝ }
 {
-    let n = texts::wide(records::byte_at(item, 16));
+    let n = texts::wide(item[16]);
     if 47 < n {
         return false;
     }
-    records::are_zeros(records::tail(item, 17 + n))
+    records::are_zeros(&item[17 + n..])
 }
 
 // Whether an item has this kind and this stress.
@@ -162,7 +163,10 @@ pub fn is_item(item: &[u8]) -> bool
     requires { ⌜ length (now item) ≡ 64 ⌝ }
     ensures { λ r. ⌜ r ≡ isItem (now (item .entry)) ⌝ }
 {
-    texts::both(is_clean(item), is_fit(item))
+    if !is_clean(item) {
+        return false;
+    }
+    is_fit(item)
 }
 
 // Whether item 0 is sound by itself.

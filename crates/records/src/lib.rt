@@ -6,6 +6,7 @@ ghost use lib.Seq.{paste};
 ghost use Rattle.texts.specs.Lists.{every};
 ghost use Rattle.texts.specs.Text.{is};
 ghost use Rattle.records.specs.Fields.{u16At, u32At, put16};
+ghost use Rattle.records.specs.Zeros.{u64At};
 
 // The byte at k.
 pub fn byte_at(s: &[u8], k: usize) -> u8
@@ -26,13 +27,6 @@ pub fn head(s: &[u8], n: usize) -> &[u8]
     ensures { λ r. ⌜ now r ≡ take n (now (s .entry)) ⌝ }
 {
     if n < s.len() { &s[0..n] } else { s }
-}
-
-// Whether every byte is zero.
-pub fn are_zeros(s: &[u8]) -> bool
-    ensures { λ r. ⌜ r ≡ every (is 0) (now (s .entry)) ⌝ }
-{
-    texts::largest(s) == 0
 }
 
 // Two bytes as a number, the low one first.
@@ -76,6 +70,40 @@ pub fn u32_in(s: &[u8], k: usize) -> u32
     ensures { λ r. ⌜ r ≡ u32At (now (s .entry)) k ⌝ }
 {
     joined(u16_in(s, k), u16_in(s, k + 2))
+}
+
+// The u64 at k, all eight bytes of which are inside: one load.
+fn u64_in(s: &[u8], k: usize) -> u64
+    requires { ⌜ k + 7 < length (now s) ⌝ }
+    ensures { λ r. ⌜ r ≡ u64At (now (s .entry)) k ⌝ }
+{
+    (u32_in(s, k) as u64) + 4294967296 * (u32_in(s, k + 4) as u64)
+}
+
+// Whether every byte is zero, told eight at a time; the last eight overlap those before.
+fn are_eights_zero(s: &[u8]) -> bool
+    requires { ⌜ 8 ≤ length (now s) ⌝ }
+    ensures { λ r. ⌜ r ≡ every (is 0) (now (s .entry)) ⌝ }
+{
+    let last = s.len() - 8;
+    let mut k = 0;
+    while k < last {
+        if u64_in(s, k) != 0 {
+            return false;
+        }
+        k += 8;
+    }
+    u64_in(s, last) == 0
+}
+
+// Whether every byte is zero.
+pub fn are_zeros(s: &[u8]) -> bool
+    ensures { λ r. ⌜ r ≡ every (is 0) (now (s .entry)) ⌝ }
+{
+    if s.len() < 8 {
+        return texts::largest(s) == 0;
+    }
+    are_eights_zero(s)
 }
 
 // The u32 at k.

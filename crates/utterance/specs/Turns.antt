@@ -9,7 +9,7 @@ use mathlib.Core.List.{List, _∷_}
 use lib.Dec.{eqb}
 use lib.ListN.{length, drop, length-drop}
 use lib.Seq.{length-take-le}
-use Rattle.texts.specs.Choice.{if_then_else_, cases, never}
+use Rattle.texts.specs.Choice.{if_then_else_, cases, never, both-true}
 use Rattle.texts.specs.Lists.{every}
 use Rattle.records.specs.Records.{recordAt}
 use Rattle.records.specs.Chain.{chain, chain-more}
@@ -22,6 +22,10 @@ pub length-itemAt : (b : List ℕ) (n : ℕ) → n < items b → length (recordA
 unfolding recordAt
 length-itemAt b n h = length-take-le 64 (drop (64 * n) b) (rw length-drop (omega arith))
 
+-- an item that is well placed is inside the sheet
+pub placed-inside : (b : List ℕ) (n : ℕ) → used b < items b → isPlaced b n ≡ true → n < items b
+placed-inside b n r h = let i = placed b n h .0 .inside in omega arith
+
 -- an item x behind phone q: it is tied to q both ways if it is a phone; the phone that items behind it are tied to; and q as the last phone
 module _ (S : ℕ → Item) where
   unfoldable pub isTied : ℕ → ℕ → Bool
@@ -32,6 +36,10 @@ module _ (S : ℕ → Item) where
 
   unfoldable pub isLast : ℕ → Bool
   isLast q = eqb (S q .follow) 0 && eqb (S 0 .prev) q
+
+  pub last-inside : (n q x : ℕ) → q < n → x < n → lastPhone q x < n
+  unfolding lastPhone
+  last-inside n q x h k = cases (eqb (S x .kind) 3) (λ e. rw e k) (λ e. rw e h)
 
   chained-tied : (q x : ℕ) (xs : List ℕ) → isTied q x ≡ true → isChained S q (x ∷ xs) ≡ isChained S (lastPhone q x) xs
   unfolding isChained isTied lastPhone
@@ -63,6 +71,11 @@ isMet b q x = isPlaced b x && (isFull (at b) x && isTied (at b) q x)
 unfoldable pub isOrdered : List ℕ → ℕ → ℕ → ℕ → Bool
 isOrdered b zero p q = eqb (after (at b) p) 0 && isLast (at b) q
 isOrdered b (suc n) p q = isMet b q (after (at b) p) && isOrdered b n (after (at b) p) (lastPhone (at b) q (after (at b) p))
+
+-- and an item met is inside
+pub met-inside : (b : List ℕ) (q x : ℕ) → used b < items b → isMet b q x ≡ true → x < items b
+unfolding isMet
+met-inside b q x r h = placed-inside b x r (both-true (isPlaced b x) (isFull (at b) x && isTied (at b) q x) h .0)
 
 module _ (b : List ℕ) where
   pub ordered-turn : (left p q x r : ℕ) → 0 < left → x ≡ after (at b) p → isMet b q x ≡ true → r ≡ lastPhone (at b) q x → isOrdered b left p q ≡ isOrdered b (left - 1) x r

@@ -17,7 +17,11 @@ fn field(sheet: &[u8], n: u16, k: usize) -> u16
     requires { ⌜ k < 63 ⌝ }
     ensures { λ r. ⌜ r ≡ u16At (recordAt 64 (now (sheet .entry)) n) k ⌝ }
 {
-    records::u16_at(sheet, 64 * (n as usize) + k)
+    let start = 64 * (n as usize);
+    if start + 63 < sheet.len() {
+        return records::u16_in(sheet, start + k);
+    }
+    records::u16_at(sheet, start + k)
 }
 
 pub fn kind(sheet: &[u8], n: u16) -> u8

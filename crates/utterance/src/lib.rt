@@ -1,5 +1,6 @@
 // The sheet (01, Store and sheet): items of 64 bytes, words with their syllables and phones.
 mod fields;
+mod inside;
 mod links;
 mod order;
 mod sound;

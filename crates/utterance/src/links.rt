@@ -1,53 +1,55 @@
-// An item's links: the item that comes behind it in reading order, and whether its fields agree with its neighbours'.
+// An item's links: the item that comes behind it in reading order, and whether its fields agree with its neighbours'. The
+// item is inside the sheet; a neighbour may be past its end, where fields read as zero.
 ghost use mathlib.Core.Path.{_≡_};
-ghost use Rattle.utterance.specs.Sheet.{at, afterSyllable, afterPhone, beyond as beyondOf, after as afterOf, isParent, isSibling, isFull};
-use crate::fields::first;
-use crate::fields::kind;
-use crate::fields::last;
-use crate::fields::next;
-use crate::fields::parent;
+ghost use Prim.Native.Nat.{_<_};
+ghost use Rattle.utterance.specs.Sheet.{at, items, afterSyllable, afterPhone, beyond as beyondOf, after as afterOf, isParent, isSibling, isFull};
+use crate::fields;
+use crate::inside;
 
 // The item behind the children of a syllable: its next sibling, or its word's.
 fn after_syllable(sheet: &[u8], i: u16) -> u16
     ensures { λ r. ⌜ r ≡ afterSyllable (at (now (sheet .entry))) i ⌝ }
 {
-    let n = next(sheet, i);
+    let n = fields::next(sheet, i);
     if n != 0 {
         return n;
     }
-    next(sheet, parent(sheet, i))
+    fields::next(sheet, fields::parent(sheet, i))
 }
 
 // The item behind a phone.
 fn after_phone(sheet: &[u8], i: u16) -> u16
+    requires { ⌜ i < items (now sheet) ⌝ }
     ensures { λ r. ⌜ r ≡ afterPhone (at (now (sheet .entry))) i ⌝ }
 {
-    let n = next(sheet, i);
+    let n = inside::next(sheet, i);
     if n != 0 {
         return n;
     }
-    after_syllable(sheet, parent(sheet, i))
+    after_syllable(sheet, inside::parent(sheet, i))
 }
 
 // The item behind the children of item i.
 fn beyond(sheet: &[u8], i: u16) -> u16
+    requires { ⌜ i < items (now sheet) ⌝ }
     ensures { λ r. ⌜ r ≡ beyondOf (at (now (sheet .entry))) i ⌝ }
 {
-    let k = kind(sheet, i);
+    let k = inside::kind(sheet, i);
     if k == 3 {
         return after_phone(sheet, i);
     }
     if k == 2 {
         return after_syllable(sheet, i);
     }
-    next(sheet, i)
+    inside::next(sheet, i)
 }
 
 // The next item in reading order.
 pub fn after(sheet: &[u8], i: u16) -> u16
+    requires { ⌜ i < items (now sheet) ⌝ }
     ensures { λ r. ⌜ r ≡ afterOf (at (now (sheet .entry))) i ⌝ }
 {
-    let f = first(sheet, i);
+    let f = inside::first(sheet, i);
     if f != 0 {
         return f;
     }
@@ -56,39 +58,42 @@ pub fn after(sheet: &[u8], i: u16) -> u16
 
 // Whether an item's child fields agree with its first child.
 pub fn is_parent(sheet: &[u8], i: u16) -> bool
+    requires { ⌜ i < items (now sheet) ⌝ }
     ensures { λ r. ⌜ r ≡ isParent (at (now (sheet .entry))) i ⌝ }
 {
-    let f = first(sheet, i);
+    let f = inside::first(sheet, i);
     if f == 0 {
-        return last(sheet, i) == 0;
+        return inside::last(sheet, i) == 0;
     }
-    if parent(sheet, f) != i {
+    if fields::parent(sheet, f) != i {
         return false;
     }
-    texts::wide(kind(sheet, f)) == texts::wide(kind(sheet, i)) + 1
+    texts::wide(fields::kind(sheet, f)) == texts::wide(inside::kind(sheet, i)) + 1
 }
 
 // Whether an item agrees with its next sibling, or with its parent where it is the last.
 pub fn is_sibling(sheet: &[u8], i: u16) -> bool
+    requires { ⌜ i < items (now sheet) ⌝ }
     ensures { λ r. ⌜ r ≡ isSibling (at (now (sheet .entry))) i ⌝ }
 {
-    let n = next(sheet, i);
-    let p = parent(sheet, i);
+    let n = inside::next(sheet, i);
+    let p = inside::parent(sheet, i);
     if n == 0 {
-        return last(sheet, p) == i;
+        return fields::last(sheet, p) == i;
     }
-    if parent(sheet, n) != p {
+    if fields::parent(sheet, n) != p {
         return false;
     }
-    kind(sheet, n) == kind(sheet, i)
+    fields::kind(sheet, n) == inside::kind(sheet, i)
 }
 
 // Whether an item has a phone if it is a syllable.
 pub fn is_full(sheet: &[u8], i: u16) -> bool
+    requires { ⌜ i < items (now sheet) ⌝ }
     ensures { λ r. ⌜ r ≡ isFull (at (now (sheet .entry))) i ⌝ }
 {
-    if kind(sheet, i) != 2 {
+    if inside::kind(sheet, i) != 2 {
         return true;
     }
-    first(sheet, i) != 0
+    inside::first(sheet, i) != 0
 }

@@ -4,11 +4,11 @@ ghost use mathlib.Core.Path.{_≡_};
 ghost use Prim.Native.Nat.{_<_};
 ghost use Rattle.utterance.specs.Sheet.{at, used as usedOf, items, isPlaced};
 ghost use Rattle.utterance.specs.Turns.{isTied, lastPhone, isLast, isMet, isOrdered};
-use crate::fields::follow;
-use crate::fields::item;
-use crate::fields::kind;
-use crate::fields::prev;
-use crate::fields::used;
+use crate::inside::follow;
+use crate::inside::item;
+use crate::inside::kind;
+use crate::inside::prev;
+use crate::inside::used;
 use crate::links::after;
 use crate::links::is_full;
 use crate::links::is_parent;
@@ -28,11 +28,15 @@ fn is_placed(sheet: &[u8], i: u16) -> bool
     if !items::is_item(item(sheet, i)) {
         return false;
     }
-    texts::both(is_parent(sheet, i), is_sibling(sheet, i))
+    if !is_parent(sheet, i) {
+        return false;
+    }
+    is_sibling(sheet, i)
 }
 
 // Whether item x, behind phone q, is tied to it both ways if it is a phone.
 fn is_tied(sheet: &[u8], q: u16, x: u16) -> bool
+    requires { ⌜ (q < items (now sheet)) × (x < items (now sheet)) ⌝ }
     ensures { λ r. ⌜ r ≡ isTied (at (now (sheet .entry))) q x ⌝ }
 {
     if kind(sheet, x) != 3 {
@@ -46,6 +50,7 @@ fn is_tied(sheet: &[u8], q: u16, x: u16) -> bool
 
 // The last phone once item x is passed, where it was q before.
 fn last_phone(sheet: &[u8], q: u16, x: u16) -> u16
+    requires { ⌜ x < items (now sheet) ⌝ }
     ensures { λ r. ⌜ r ≡ lastPhone (at (now (sheet .entry))) q x ⌝ }
 {
     if kind(sheet, x) == 3 { x } else { q }
@@ -53,6 +58,7 @@ fn last_phone(sheet: &[u8], q: u16, x: u16) -> u16
 
 // Whether phone q, or item 0, is tied as the last.
 fn is_last(sheet: &[u8], q: u16) -> bool
+    requires { ⌜ q < items (now sheet) ⌝ }
     ensures { λ r. ⌜ r ≡ isLast (at (now (sheet .entry))) q ⌝ }
 {
     if follow(sheet, q) != 0 {
@@ -63,13 +69,16 @@ fn is_last(sheet: &[u8], q: u16) -> bool
 
 // Whether item x, behind phone q, is well placed, has a phone if it is a syllable, and is tied to q if it is a phone.
 fn is_met(sheet: &[u8], q: u16, x: u16) -> bool
-    requires { ⌜ usedOf (now sheet) < items (now sheet) ⌝ }
+    requires { ⌜ (usedOf (now sheet) < items (now sheet)) × (q < items (now sheet)) ⌝ }
     ensures { λ r. ⌜ r ≡ isMet (now (sheet .entry)) q x ⌝ }
 {
     if !is_placed(sheet, x) {
         return false;
     }
-    texts::both(is_full(sheet, x), is_tied(sheet, q, x))
+    if !is_full(sheet, x) {
+        return false;
+    }
+    is_tied(sheet, q, x)
 }
 
 // Whether as many items as are used stand behind item 0, and then nothing; each is met as it should be, and the last
@@ -81,13 +90,15 @@ pub fn is_ordered(sheet: &[u8]) -> bool
     let mut p = 0;
     let mut q = 0;
     let mut left = used(sheet);
-    while 0 < left {
+    loop {
         p = after(sheet, p);
+        if left == 0 {
+            return texts::both(p == 0, is_last(sheet, q));
+        }
         if !is_met(sheet, q, p) {
             return false;
         }
         q = last_phone(sheet, q, p);
         left -= 1;
     }
-    texts::both(after(sheet, p) == 0, is_last(sheet, q))
 }

@@ -6,13 +6,22 @@ use borrow.Author.Tests.{eq-eqb, ne-eqb, le-leb, lt-leb, not-true, not-false}
 use native.Mathlib.Omega.{arith}
 use mathlib.Core.Path.{_≡_, sym, ap, _∙_}
 use mathlib.Core.List.{List}
-use mathlib.Core.Bool.{true, false}
+use mathlib.Core.Bool.{true, false, not, _&&_}
+use lib.Dec.{eqb, leb}
 use lib.ListN.{length}
 use Rattle.records.specs.Records.{recordAt}
 use Rattle.items.specs.Item.{isItem}
 use Rattle.utterance.specs.Sheet.{used, isPlaced}
 use Rattle.utterance.specs.Turns.{length-itemAt}
 use Rattle.utterance.proofs.order.is_placed.Tie as tie
+
+front : (c : tie.Else3) → (not (eqb (c .before .before .before .before .before .before .before .args .i) 0) && leb (c .before .before .before .before .before .before .before .args .i) (used (c .before .before .before .before .before .before .before .args .sheet .now)) && isItem (recordAt 64 (c .before .before .before .before .before .before .before .args .sheet .now) (c .before .before .before .before .before .before .before .args .i))) ≡ true
+front c =
+    let b = c .before .before .before .before .before .before .before .args .sheet .now in
+    let i = c .before .before .before .before .before .before .before .args .i in
+    let e = c .before .before .before .before .used .ensures in
+    let s : isItem (recordAt 64 b i) ≡ true = sym (c .before .is-item .ensures ∙ ap isItem (c .before .before .item .ensures)) ∙ not-false (c .before .is-item .result) (c .if3 .left) in
+    rw (ne-eqb i 0 (c .before .before .before .before .before .if1 .left), le-leb i (used b) (omega arith), s)
 
 returns : tie.Need-returns
 unfolding isPlaced
@@ -48,19 +57,16 @@ returns-3 c =
 is-parent-requires : tie.Need-is-parent-requires
 is-parent-requires c κs = search needs
 
+returns-4 : tie.Need-returns-4
+unfolding isPlaced
+returns-4 c = rw (front (c .before .before), sym (c .before .is-parent .ensures) ∙ not-true (c .before .is-parent .result) (c .if4 .taken))
+
 is-sibling-requires : tie.Need-is-sibling-requires
 is-sibling-requires c κs = search needs
 
-both-requires : tie.Need-both-requires
-both-requires c κs = search needs
-
-returns-4 : tie.Need-returns-4
+returns-5 : tie.Need-returns-5
 unfolding isPlaced
-returns-4 c =
-    let b = c .before .before .before .before .before .before .before .before .before .before .args .sheet .now in
-    let e = c .before .before .before .before .before .before .before .used .ensures in
-    let s : isItem (recordAt 64 b (c .before .before .before .before .before .before .before .before .before .before .args .i)) ≡ true = sym (c .before .before .before .before .is-item .ensures ∙ ap isItem (c .before .before .before .before .before .item .ensures)) ∙ not-false (c .before .before .before .before .is-item .result) (c .before .before .before .if3 .left) in
-    rw (ne-eqb (c .before .before .before .before .before .before .before .before .before .before .args .i) 0 (c .before .before .before .before .before .before .before .before .if1 .left), le-leb (c .before .before .before .before .before .before .before .before .before .before .args .i) (used b) (omega arith), s, ← c .before .before .is-parent .ensures, ← c .before .is-sibling .ensures) (c .both .ensures)
+returns-5 c = rw (front (c .before .before .before), sym (c .before .before .is-parent .ensures) ∙ not-false (c .before .before .is-parent .result) (c .before .if4 .left)) (c .is-sibling .ensures)
 
 pub is-placed-spec : {M : Type 1} → statement M
 is-placed-spec =
@@ -73,6 +79,6 @@ is-placed-spec =
     is-item-requires
     returns-3
     is-parent-requires
+    returns-4
     is-sibling-requires
-    both-requires
-    returns-4)
+    returns-5)

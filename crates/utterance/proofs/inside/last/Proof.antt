@@ -1,0 +1,16 @@
+-- `utterance::inside::last` meets its contract: the field at byte 6 of an item inside. Assumes nothing.
+use borrow.Author.Needs.{needs}
+use Rattle.utterance.proofs.inside.last.Statement.{statement}
+use Rattle.items.specs.Item.{itemOf}
+use Rattle.utterance.specs.Sheet.{at}
+use Rattle.utterance.proofs.inside.last.Tie as tie
+
+field-requires : tie.Need-field-requires
+field-requires c κs = search needs
+
+returns : tie.Need-returns
+unfolding at itemOf
+returns c = c .field .ensures
+
+pub last-spec : {M : Type 1} → statement M
+last-spec = tie.close (tie.spec field-requires returns)

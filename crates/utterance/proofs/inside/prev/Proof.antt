@@ -1,0 +1,16 @@
+-- `utterance::inside::prev` meets its contract: the field at byte 10 of an item inside. Assumes nothing.
+use borrow.Author.Needs.{needs}
+use Rattle.utterance.proofs.inside.prev.Statement.{statement}
+use Rattle.items.specs.Item.{itemOf}
+use Rattle.utterance.specs.Sheet.{at}
+use Rattle.utterance.proofs.inside.prev.Tie as tie
+
+field-requires : tie.Need-field-requires
+field-requires c κs = search needs
+
+returns : tie.Need-returns
+unfolding at itemOf
+returns c = c .field .ensures
+
+pub prev-spec : {M : Type 1} → statement M
+prev-spec = tie.close (tie.spec field-requires returns)
