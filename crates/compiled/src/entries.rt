@@ -2,7 +2,8 @@
 // bytes are cut short, and `is_whole` tells.
 ghost use mathlib.Core.Path.{_≡_};
 ghost use mathlib.Core.Bool.{true};
-ghost use Prim.Native.Nat.{_<_, _^_};
+ghost use Prim.Native.Nat.{_+_, _*_, _<_, _^_};
+ghost use lib.ListN.{length};
 ghost use Rattle.data.specs.Sections.{isPhoneTable};
 ghost use Rattle.compiled.specs.Entries.{tagOf, wordOf, numbersOf, isWhole, isSpoken, entryAt};
 
@@ -12,6 +13,14 @@ pub fn entry<'a>(index: &[u8], lex_data: &'a [u8], i: usize) -> &'a [u8]
     ensures { λ r. ⌜ now r ≡ entryAt (now (index .entry)) (now (lex_data .entry)) i ⌝ }
 {
     records::tail(lex_data, records::u32_at(index, 4 + 4 * i) as usize)
+}
+
+// Entry i, whose offset lies inside the index.
+pub fn entry_in<'a>(index: &[u8], lex_data: &'a [u8], i: usize) -> &'a [u8]
+    requires { ⌜ 4 + 4 * i + 3 < length (now index) ⌝ }
+    ensures { λ r. ⌜ now r ≡ entryAt (now (index .entry)) (now (lex_data .entry)) i ⌝ }
+{
+    records::tail(lex_data, records::u32_in(index, 4 + 4 * i) as usize)
 }
 
 pub fn tag(s: &[u8]) -> u8

@@ -1,6 +1,7 @@
 // The search for a word (01, Lookup): halves, then the run of equal words for the tag.
 ghost use mathlib.Core.Path.{_≡_};
-ghost use Prim.Native.Nat.{_-_};
+ghost use Prim.Native.Nat.{_+_, _-_, _*_, _≤_};
+ghost use lib.ListN.{length};
 ghost use Rattle.compiled.specs.Entries.{count};
 ghost use Rattle.compiled.specs.Search.{search as searchOf, tagged as taggedOf, fromPlace, chosen};
 use crate::Chosen;
@@ -8,13 +9,14 @@ use crate::entries;
 
 // The first entry whose word is not smaller, if words don't fall.
 fn search(index: &[u8], lex_data: &[u8], word: &[u8]) -> Chosen
+    requires { ⌜ 4 + 4 * count (now index) ≤ length (now index) ⌝ }
     ensures { λ r. ⌜ r ≡ searchOf (now (index .entry)) (now (lex_data .entry)) (now (word .entry)) (count (now (index .entry))) 0 (count (now (index .entry))) ⌝ }
 {
     let mut lo = 0;
     let mut hi = data::count(index);
     while lo < hi {
         let mid = (lo + hi) / 2;
-        let s = entries::entry(index, lex_data, mid);
+        let s = entries::entry_in(index, lex_data, mid);
         if !entries::is_whole(s) {
             return Chosen::Damaged;
         }
@@ -68,6 +70,7 @@ fn from_place(index: &[u8], lex_data: &[u8], word: &[u8], tag: u8, lo: usize) ->
 
 // The word's entry by its tag.
 pub fn choose(index: &[u8], lex_data: &[u8], word: &[u8], tag: u8) -> Chosen
+    requires { ⌜ 4 + 4 * count (now index) ≤ length (now index) ⌝ }
     ensures { λ r. ⌜ r ≡ chosen (now (index .entry)) (now (lex_data .entry)) (now (word .entry)) tag ⌝ }
 {
     match search(index, lex_data, word) {

@@ -26,8 +26,8 @@ loop-holds c = let z : c .count .result - 0 ≡ c .count .result = omega arith i
 add-mid : tie.Need-add-mid Inv-loop μ-loop
 add-mid c = omega (arith, c .before .before .count .ensures .1)
 
-entry-requires : tie.Need-entry-requires Inv-loop μ-loop
-entry-requires c κs = omega (arith, c .before .before .count .ensures .1)
+entry-in-requires : tie.Need-entry-in-requires Inv-loop μ-loop
+entry-in-requires c κs = omega (arith, c .before .before .count .ensures .0, c .before .before .before .before .before .before .pre)
 
 is-whole-requires : tie.Need-is-whole-requires Inv-loop μ-loop
 is-whole-requires c κs = search needs
@@ -36,7 +36,7 @@ returns : tie.Need-returns Inv-loop μ-loop
 returns c =
     let a = c .before .before .before .before .before .before .before .before .before .args in
     let l = c .before .before .before .before .loop in
-    let w : isWhole (entryAt (a .index .now) (a .lex-data .now) ((l .lo + l .hi) / 2)) ≡ false = rw (← c .before .before .entry .ensures) (sym (c .before .is-whole .ensures) ∙ not-true (c .before .is-whole .result) (c .if1 .taken)) in
+    let w : isWhole (entryAt (a .index .now) (a .lex-data .now) ((l .lo + l .hi) / 2)) ≡ false = rw (← c .before .before .entry-in .ensures) (sym (c .before .is-whole .ensures) ∙ not-true (c .before .is-whole .result) (c .if1 .taken)) in
     rw (← c .before .before .before .before .before .count .ensures .0) (sym (l .inv .2 ∙ search-damaged (a .index .now) (a .lex-data .now) (a .word .now) (l .lo) (l .hi) (omega arith) w))
 
 whole-word-requires : tie.Need-whole-word-requires Inv-loop μ-loop
@@ -55,8 +55,8 @@ loop-again : tie.Need-loop-again Inv-loop μ-loop
 loop-again c =
     let a = c .before .before .before .before .before .before .before .before .before .before .before .before .args in
     let l = c .before .before .before .before .before .before .before .loop in
-    let w : isWhole (entryAt (a .index .now) (a .lex-data .now) ((l .lo + l .hi) / 2)) ≡ true = rw (← c .before .before .before .before .before .entry .ensures) (sym (c .before .before .before .before .is-whole .ensures) ∙ not-false (c .before .before .before .before .is-whole .result) (c .before .before .before .if1 .left)) in
-    let s : smaller (wordOf (entryAt (a .index .now) (a .lex-data .now) ((l .lo + l .hi) / 2))) (a .word .now) ≡ true = rw (← c .before .before .before .before .before .entry .ensures, ← c .before .before .whole-word .ensures) (sym (c .before .smaller .ensures) ∙ c .if2 .taken) in
+    let w : isWhole (entryAt (a .index .now) (a .lex-data .now) ((l .lo + l .hi) / 2)) ≡ true = rw (← c .before .before .before .before .before .entry-in .ensures) (sym (c .before .before .before .before .is-whole .ensures) ∙ not-false (c .before .before .before .before .is-whole .result) (c .before .before .before .if1 .left)) in
+    let s : smaller (wordOf (entryAt (a .index .now) (a .lex-data .now) ((l .lo + l .hi) / 2))) (a .word .now) ≡ true = rw (← c .before .before .before .before .before .entry-in .ensures, ← c .before .before .whole-word .ensures) (sym (c .before .smaller .ensures) ∙ c .if2 .taken) in
     (omega arith, omega arith, l .inv .2 ∙ search-up (a .index .now) (a .lex-data .now) (a .word .now) (l .lo) (l .hi) (omega arith) w s)
 
 loop-less-2 : tie.Need-loop-less-2 Inv-loop μ-loop
@@ -66,8 +66,8 @@ loop-again-2 : tie.Need-loop-again-2 Inv-loop μ-loop
 loop-again-2 c =
     let a = c .before .before .before .before .before .before .before .before .before .before .before .before .args in
     let l = c .before .before .before .before .before .before .before .loop in
-    let w : isWhole (entryAt (a .index .now) (a .lex-data .now) ((l .lo + l .hi) / 2)) ≡ true = rw (← c .before .before .before .before .before .entry .ensures) (sym (c .before .before .before .before .is-whole .ensures) ∙ not-false (c .before .before .before .before .is-whole .result) (c .before .before .before .if1 .left)) in
-    let s : smaller (wordOf (entryAt (a .index .now) (a .lex-data .now) ((l .lo + l .hi) / 2))) (a .word .now) ≡ false = rw (← c .before .before .before .before .before .entry .ensures, ← c .before .before .whole-word .ensures) (sym (c .before .smaller .ensures) ∙ c .if2 .left) in
+    let w : isWhole (entryAt (a .index .now) (a .lex-data .now) ((l .lo + l .hi) / 2)) ≡ true = rw (← c .before .before .before .before .before .entry-in .ensures) (sym (c .before .before .before .before .is-whole .ensures) ∙ not-false (c .before .before .before .before .is-whole .result) (c .before .before .before .if1 .left)) in
+    let s : smaller (wordOf (entryAt (a .index .now) (a .lex-data .now) ((l .lo + l .hi) / 2))) (a .word .now) ≡ false = rw (← c .before .before .before .before .before .entry-in .ensures, ← c .before .before .whole-word .ensures) (sym (c .before .smaller .ensures) ∙ c .if2 .left) in
     (omega arith, omega arith, l .inv .2 ∙ search-down (a .index .now) (a .lex-data .now) (a .word .now) (l .lo) (l .hi) (omega arith) w s)
 
 returns-2 : tie.Need-returns-2 Inv-loop μ-loop
@@ -85,7 +85,7 @@ search-spec =
     count-requires
     loop-holds
     add-mid
-    entry-requires
+    entry-in-requires
     is-whole-requires
     returns
     whole-word-requires

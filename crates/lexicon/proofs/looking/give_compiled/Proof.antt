@@ -17,7 +17,7 @@ place : (c : tie.After-known-told) → chosen (c .before .before .before .before
 place c = sym (c .before .before .before .choose .ensures) ∙ c .before .i .given .1
 
 choose-requires : tie.Need-choose-requires
-choose-requires c κs = search needs
+choose-requires c κs = let p = c .before .before .before .before .before .before in index-room (p .args .phones .now) (p .args .index .now) (p .pre .1)
 
 enum-told : tie.Need-enum-told
 enum-told c = search needs
