@@ -1,6 +1,6 @@
 // The six sections that saying a word takes, read from a folder.
-use crate::options::Options;
 use crate::session;
+use telling::Options;
 
 // The lexicon first, then the letter trees.
 pub fn with_lexicon(folder: &[u8], o: Options) {

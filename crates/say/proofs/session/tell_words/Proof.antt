@@ -5,13 +5,6 @@ use lib.ListN.{length}
 use borrow.Author.Needs.{needs}
 use Rattle.say.proofs.session.tell_words.Statement.{statement}
 use Rattle.say.proofs.session.tell_words.Tie as tie
-use Rattle.say.proofs.session.tell_words.Reads as reads
-use Rattle.say.proofs.session.tell_words.Lts as lts
-use Rattle.lines.proofs.field.Reads as field-reads
-use Rattle.lines.proofs.field_end.Reads as field-end-reads
-use Rattle.lines.proofs.is_empty.Reads as is-empty-reads
-use Rattle.records.proofs.tail.Reads as tail-reads
-use Rattle.say.proofs.word.tell.Reads as tell-reads
 
 abbrev Inv-loop : tie.InvT-loop
 Inv-loop phones index dat sounds starts model store sheet₀ text at₀ left₀ sheet at left = (at ≤ length text) × (length sheet ≡ length sheet₀)

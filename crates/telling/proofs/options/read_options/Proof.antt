@@ -1,13 +1,8 @@
--- `say::options::read` is safe and ends: each turn reads the next argument. Assumes nothing.
+-- `telling::options::read_options` is safe and ends: each turn reads the next argument. Assumes nothing.
 use Prim.Native.Nat.{_-_}
 use borrow.Author.Needs.{needs}
-use Rattle.say.proofs.options.read.Statement.{statement}
-use Rattle.say.proofs.options.read.Tie as tie
-use Rattle.say.proofs.options.read.Reads as reads
-use Rattle.say.proofs.options.read.Lts as lts
-use Rattle.os.proofs.arg_count.Reads as arg-count-reads
-use Rattle.say.proofs.options.ended.Reads as ended-reads
-use Rattle.say.proofs.options.with_argument.Reads as with-argument-reads
+use Rattle.telling.proofs.options.read_options.Statement.{statement}
+use Rattle.telling.proofs.options.read_options.Tie as tie
 
 abbrev Inv-loop : tie.InvT-loop
 Inv-loop count o₀ k₀ o k = Unit {0}
@@ -42,8 +37,8 @@ ended-requires c κs = search needs
 returns-2 : tie.Need-returns-2 Inv-loop μ-loop
 returns-2 c = search needs
 
-pub read-spec : {M : Type 1} → statement M
-read-spec =
+pub read-options-spec : {M : Type 1} → statement M
+read-options-spec =
     tie.close
     (tie.spec
     Inv-loop

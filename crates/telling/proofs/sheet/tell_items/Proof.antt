@@ -1,13 +1,8 @@
--- `say::word::tell_items` is safe and ends: each turn tells the next item. Assumes nothing.
+-- `telling::sheet::tell_items` is safe and ends: each turn tells the next item. Assumes nothing.
 use Prim.Native.Nat.{_-_}
 use borrow.Author.Needs.{needs}
-use Rattle.say.proofs.word.tell_items.Statement.{statement}
-use Rattle.say.proofs.word.tell_items.Tie as tie
-use Rattle.say.proofs.word.tell_items.Reads as reads
-use Rattle.say.proofs.word.tell_items.Lts as lts
-use Rattle.console.proofs.write.Reads as write-reads
-use Rattle.say.proofs.word.tell_item.Reads as tell-item-reads
-use Rattle.utterance.proofs.used.Reads as used-reads
+use Rattle.telling.proofs.sheet.tell_items.Statement.{statement}
+use Rattle.telling.proofs.sheet.tell_items.Tie as tie
 
 abbrev Inv-loop : tie.InvT-loop
 Inv-loop sheet used n₀ t5 n = Unit {0}

@@ -101,7 +101,7 @@ fn with_argument(o: Options, k: usize) -> Options {
 }
 
 // The options up to the first word; not good where one is unknown or has no value.
-pub fn read() -> Options {
+pub fn read_options() -> Options {
     let count = os::arg_count();
     let mut o = Options {
         tables: 0,
