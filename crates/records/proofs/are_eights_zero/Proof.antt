@@ -1,8 +1,8 @@
 -- `records::are_eights_zero` meets its contract: the bytes below k are zero, and the last eight bytes decide. Assumes nothing.
-use Prim.Native.Nat.{ℕ, _-_, _<_}
+use Prim.Native.Nat.{ℕ, _-_}
 use native.Mathlib.Nat.{not-suc-le-zero}
 use native.Mathlib.Omega.{arith}
-use mathlib.Core.Path.{_≡_, sym, ap, _∙_}
+use mathlib.Core.Path.{sym, ap, _∙_}
 use lib.Dec.{eqb}
 use lib.ListN.{length}
 use Rattle.records.specs.Zeros.{ZeroBelow, zeros-turn, zeros-stop, zeros-end}
