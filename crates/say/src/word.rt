@@ -1,34 +1,5 @@
 // One word: looked up for its source, said on a new sheet, and read back from it.
 
-// The word on a new sheet, and what the sheet then holds.
-fn tell_said(
-    phones: &[u8],
-    index: &[u8],
-    dat: &[u8],
-    sounds: &[u8],
-    starts: &[u8],
-    model: &[u8],
-    store: &[u8],
-    sheet: &mut [u8],
-    word: &[u8],
-    tag: &[u8],
-) {
-    utterance::new_sheet(sheet);
-    let said = pipeline::say_word(
-        phones,
-        index,
-        dat,
-        sounds,
-        starts,
-        model,
-        store,
-        sheet,
-        word,
-        tag,
-    );
-    telling::tell_said(said, sheet);
-}
-
 // A word, its tag behind a slash.
 pub fn tell(
     phones: &[u8],
@@ -47,7 +18,8 @@ pub fn tell(
     let tag = records::tail(records::tail(field, slash), 1);
     console::write(field);
     if telling::tell_looked(lexicon::lookup(phones, index, dat, store, word, tag, &mut room)) {
-        tell_said(
+        utterance::new_sheet(sheet);
+        let said = pipeline::say_word(
             phones,
             index,
             dat,
@@ -59,5 +31,6 @@ pub fn tell(
             word,
             tag,
         );
+        telling::tell_said(said, sheet);
     }
 }
