@@ -21,16 +21,16 @@ use Rattle.store.specs.Sound.{Sound, sound}
 use Rattle.store.specs.Result.{Added}
 use Rattle.store.specs.Added.{room}
 use Rattle.lexicon.specs.Adding.{mayAdd}
-use Rattle.lexicon.specs.Accepted.{fold-word, tag-low}
+use Rattle.lexicon.specs.Fitting.{fold-word, tag-low}
 use Rattle.addtext.specs.Call.{Filled, onward, filled, entriesOf, lineEntries, addingAll, barred, addEntries, storeAfter}
-use Rattle.addtext.specs.Phones.{may-phones}
-use Rattle.addtext.specs.Line.{Line, skipped, faulty, entry, onContent, readLine, lineEntry, judged, outcome, onOutcome, behindLine, on-word, on-nothing}
+use Rattle.entryline.specs.Phones.{may-phones}
+use Rattle.entryline.specs.Line.{Line, skipped, faulty, entry, onContent, readLine, lineEntry, judged, outcome, onOutcome, behindLine, on-word, on-nothing}
 use Rattle.answers.specs.declared.Refusal.{Refusal}
 use Rattle.answers.specs.declared.Refusal.the-variants.{Text, UnknownPhone, Phones, Full}
 use Rattle.answers.specs.declared.Answer.{Answer}
 use Rattle.answers.specs.Told.{refusalNumber, refused, written}
 use Rattle.answers.specs.Numbers.{not-zero, refused-never}
-use Rattle.addtext.specs.declared.Outcome.the-variants.{Taken, Refused}
+use Rattle.entryline.specs.declared.Outcome.the-variants.{Taken, Refused}
 
 -- where the answer is a refusal, what was lent stays
 pub stays : (r : Refusal) (line : ℕ) (a : Answer) (before after : List ℕ) → refused (refusalNumber r) line ≡ a → written a before after ≡ before

@@ -14,9 +14,9 @@ use Rattle.store.specs.Store.{isSound}
 use Rattle.store.specs.Adding.{adding}
 use Rattle.answers.specs.declared.Answer.{Answer}
 use Rattle.answers.specs.Told.{refusalNumber, refused, accepted, written}
-use Rattle.addtext.specs.Line.{Line, skipped, faulty, entry, readLine, lineEntry, outcome, behindLine}
-use Rattle.addtext.specs.declared.Outcome.{Outcome}
-use Rattle.addtext.specs.declared.Outcome.the-variants.{Skipped, Taken, Refused}
+use Rattle.entryline.specs.Line.{Line, skipped, faulty, entry, readLine, lineEntry, outcome, behindLine}
+use Rattle.entryline.specs.declared.Outcome.{Outcome}
+use Rattle.entryline.specs.declared.Outcome.the-variants.{Skipped, Taken, Refused}
 
 -- how far the lines came: the answer, and the store with the lines before a fault applied
 pub record Filled : Type 0 where

@@ -1,5 +1,3 @@
-pub mod Phones
-pub mod Line
 pub mod Call
 pub mod Turns
 pub mod Accepted

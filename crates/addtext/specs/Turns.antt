@@ -8,8 +8,8 @@ use lib.Seq.{drop-cons}
 use Rattle.lines.specs.Lines.{firstLine, afterLine, linesOf, lines}
 use Rattle.lines.specs.Turns.{lines-more}
 use Rattle.answers.specs.Told.{accepted}
-use Rattle.addtext.specs.Line.{readLine, outcome, behindLine}
-use Rattle.addtext.specs.declared.Outcome.{Outcome}
+use Rattle.entryline.specs.Line.{readLine, outcome, behindLine}
+use Rattle.entryline.specs.declared.Outcome.{Outcome}
 use Rattle.addtext.specs.Call.{onward, filled}
 
 module _ (text : List ℕ) (at : ℕ) where

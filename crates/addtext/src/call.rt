@@ -8,10 +8,9 @@ ghost use Rattle.store.specs.Store.{isSound};
 ghost use Rattle.lines.specs.Lines.{lines as linesIn};
 ghost use Rattle.answers.specs.Told.{toldLines, written};
 ghost use Rattle.addtext.specs.Call.{filled, addEntries, storeAfter, spareAfter};
-use crate::Outcome;
-use crate::line;
 use answers::Lines;
 use answers::Refusal;
+use entryline::Outcome;
 
 // Adds the lines of a text to a sound store, up to the first fault.
 fn add_lines(table: &[u8], store: &mut [u8], text: &[u8]) -> Lines
@@ -24,7 +23,7 @@ fn add_lines(table: &[u8], store: &mut [u8], text: &[u8]) -> Lines
     let mut taken = 0;
     while at < text.len() {
         let rest = records::tail(text, at);
-        match line::take_line(table, store, lines::first_line(rest)) {
+        match entryline::take_line(table, store, lines::first_line(rest)) {
             Outcome::Skipped => {}
             Outcome::Taken => {
                 taken += 1;

@@ -10,7 +10,7 @@ use Rattle.lexicon.specs.Adding.{newEntry}
 use Rattle.lines.specs.Lines.{lines}
 use Rattle.addtext.specs.Call.{lineEntries, addingAll}
 use Rattle.utterance.specs.Tree.{Word}
-use Rattle.pipeline.specs.Pronounced.{Sections, Spoken, barred, phones, pronounced, said}
+use Rattle.wordlaws.specs.Pronounced.{Sections, Spoken, barred, phones, pronounced, said}
 use Rattle.book.specs.Calls.{Call, makeSheet, addsEntry, addsText, saysWord, Made, State, step, isRefused}
 
 -- entries and words, at first none

@@ -5,12 +5,12 @@ use mathlib.Core.Bool.{Bool, not}
 use mathlib.Core.List.{List, [], _∷_}
 use lib.Dec.{eqb}
 use Rattle.store.specs.Store.{newBytes as newStoreBytes}
-use Rattle.lexicon.specs.Adding.{addEntry, storeAfter as storeAfterEntry}
+use Rattle.add_entry.specs.AddEntry.{addEntry, storeAfter as storeAfterEntry}
 use Rattle.addtext.specs.Call.{addEntries, storeAfter as storeAfterText}
 use Rattle.utterance.specs.Sheet.{newSheet, newBytes}
 use Rattle.answers.specs.declared.Answer.{Answer}
-use Rattle.pipeline.specs.Pronounced.{Sections}
-use Rattle.pipeline.specs.SayWord.{sayWord, sheetAfter}
+use Rattle.wordlaws.specs.Pronounced.{Sections}
+use Rattle.say_word.specs.SayWord.{sayWord, sheetAfter}
 
 -- a call, with its arguments other than store, sheet and spare
 pub data Call : Type 0 where

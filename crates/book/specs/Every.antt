@@ -18,8 +18,9 @@ use Rattle.store.specs.Adding.{adding}
 use Rattle.store.specs.Fresh.{fresh as freshStore, fresh-sound, fresh-entries}
 use Rattle.lts.specs.Letters.{isTrees}
 use Rattle.compiled.specs.Call.{isLexicon}
-use Rattle.lexicon.specs.Adding.{newEntry, addEntry, storeAfter}
-use Rattle.lexicon.specs.Accepted.{add-law, accepted-is}
+use Rattle.lexicon.specs.Adding.{newEntry}
+use Rattle.add_entry.specs.AddEntry.{addEntry, storeAfter}
+use Rattle.add_entry.specs.Accepted.{add-law, accepted-is}
 use Rattle.lines.specs.Lines.{lines}
 use Rattle.addtext.specs.Call.{lineEntries, addingAll, addEntries, storeAfter as storeAfterText}
 use Rattle.addtext.specs.Accepted.{text-law}
@@ -30,12 +31,13 @@ use Rattle.utterance.specs.Append.{size}
 use Rattle.utterance.specs.Appended.{append-law, append-reads}
 use Rattle.utterance.specs.NewSheet.{new-sound, new-reads}
 use Rattle.answers.specs.declared.Answer.{Answer}
-use Rattle.pipeline.specs.Pronounced.{Sections, Spoken, barred, phones, pronounced, said}
-use Rattle.pipeline.specs.SayWord.{isCrowded, onSpoken as onSpokenAnswer, withSpoken, sayWord, sheetAfter}
+use Rattle.wordlaws.specs.Pronounced.{Sections, Spoken, barred, phones, pronounced, said}
+use Rattle.wordlaws.specs.Placing.{isCrowded, onSpoken as onSpokenAnswer, withSpoken}
+use Rattle.say_word.specs.SayWord.{sayWord, sheetAfter}
 use Rattle.book.specs.Calls.{Call, makeSheet, addsEntry, addsText, saysWord, Made, State, answer, step, isRefused, leaves, fresh}
 use Rattle.book.specs.Book.{Book, empty, onSpoken, accepts, keeps, hears}
-use Rattle.pipeline.specs.Sources.{entries-fit}
-use Rattle.pipeline.specs.Fits.{pronounced-fits}
+use Rattle.wordlaws.specs.Sources.{entries-fit}
+use Rattle.wordlaws.specs.Fits.{pronounced-fits}
 use Rattle.book.specs.MayStand.{phones-said}
 use Rattle.book.specs.WellCut.{WellCut, said-cut}
 use Rattle.book.specs.Claim.{Each, Tells, tells}

@@ -15,8 +15,8 @@ use Rattle.phoneset.specs.Stress.{digits, isStressed, stress, bare}
 use Rattle.onsets.specs.Onsets.{onsets}
 use Rattle.syllabify.specs.Syllables.{marks, syllables, onFirst}
 use Rattle.utterance.specs.Append.{isSyllable, isSaid}
-use Rattle.pipeline.specs.Pronounced.{lastStress, sung, said}
-use Rattle.pipeline.specs.Fits.{isStress, digit}
+use Rattle.wordlaws.specs.Pronounced.{lastStress, sung, said}
+use Rattle.wordlaws.specs.Fits.{isStress, digit}
 
 last-stress : (d : ℕ) (ps : List (List ℕ)) → isStress d ≡ true → isStress (lastStress d ps) ≡ true
 unfolding lastStress

@@ -1,4 +1,4 @@
--- 01, Lookup: Adding. add entry as a call: its refusals 1, 2, 3, 5, 7 and 8, and the store at exit.
+-- 01, Lookup: Adding. What may be added, and the entry that it makes.
 -- Assumes nothing.
 use Prim.Native.Nat.{ℕ, zero, suc, _/_, _<_}
 use native.Mathlib.Nat.{not-suc-le-zero, le-of-suc-le-suc}
@@ -38,20 +38,6 @@ mayAddAll table phones = every (mayAddCell table) (records 16 phones)
 -- the entry to be added, its word folded
 unfoldable pub newEntry : List ℕ → List ℕ → List ℕ → Entry
 newEntry word tag phones = entryFor (addedTag tag) (map folded word) phones
-
-unfoldable pub addEntry : List ℕ → List ℕ → List ℕ → List ℕ → List ℕ → Answer
-addEntry table store word tag phones =
-    if not (isPhoneTable table) then refused 1 0
-    else if not (isSound store) then refused 2 0
-    else if not (isWord word && isWord tag && asciiPhones phones) then refused 3 0
-    else if not (mayAddAll table phones) then refused 5 0
-    else if ltb 24 (length phones / 16) then refused 7 0
-    else if isFull store (newEntry word tag phones) then refused 8 0
-    else accepted 0 0
-
--- the store at exit
-unfoldable pub storeAfter : List ℕ → List ℕ → List ℕ → List ℕ → List ℕ → List ℕ
-storeAfter table store word tag phones = written (addEntry table store word tag phones) store (added store (newEntry word tag phones))
 
 -- inside a list it does not matter what stands past its end
 pub getD-in : (l : List ℕ) (k c d : ℕ) → k < length l → getD l k c ≡ getD l k d

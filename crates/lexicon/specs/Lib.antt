@@ -1,3 +1,3 @@
 pub mod Adding
 pub mod Lookup
-pub mod Accepted
+pub mod Fitting

@@ -1,9 +1,9 @@
--- 01, Lookup: runtime entries, oldest first; then the addenda; then the compiled entries. lookup as a call: its refusals 1, 2, 3, 6, 7 and 9, its answer, and the output at exit.
+-- 01, Lookup: runtime entries, oldest first; then the addenda; then the compiled entries. what a lookup comes to, and refusals 6, 7 and 9.
 -- Assumes nothing.
 use Prim.Native.Nat.{ℕ, _*_, _≤_, _<_}
 use native.Mathlib.Omega.{arith}
 use mathlib.Core.Path.{_≡_}
-use mathlib.Core.Bool.{true, not, _&&_}
+use mathlib.Core.Bool.{true}
 use mathlib.Core.List.{List, _++_, map}
 use mathlib.Core.Option.{Option, none, some}
 use lib.Dec.{ltb}
@@ -11,16 +11,15 @@ use lib.ListN.{length, getD, drop}
 use borrow.Author.Tests.{lt-ltb, le-ltb}
 use Rattle.texts.specs.Choice.{if_then_else_}
 use Rattle.texts.specs.Lists.{first, place, first-just, first-none}
-use Rattle.texts.specs.Text.{folded, isWord}
+use Rattle.texts.specs.Text.{folded}
 use Rattle.cells.specs.Cells.{cellsOf}
 use Rattle.addenda.specs.Addenda.{Addendum, addenda, noAddendum}
 use Rattle.addenda.specs.Rules.{addenda-count}
 use Rattle.addenda.specs.Find.{isMeant}
 use Rattle.slots.specs.Slot.{Entry}
-use Rattle.store.specs.Store.{isWanted, isSound, entries}
+use Rattle.store.specs.Store.{isWanted}
 use Rattle.compiled.specs.Entries.{entryAt, isSpoken, phonesOf}
 use Rattle.compiled.specs.Search.{chosen}
-use Rattle.compiled.specs.Call.{isLexicon}
 use Rattle.compiled.specs.declared.Chosen.{Chosen}
 use Rattle.compiled.specs.declared.Chosen.the-variants.{Damaged, Missing, Entry as At}
 use Rattle.answers.specs.declared.Answer.{Answer}
@@ -122,26 +121,3 @@ module _ (s : Source) (ps : List (List ℕ)) (out : List ℕ) where
       let e = le-ltb 96 (length ps) h in
       let k = le-ltb (length out) (16 * length ps) l in
       (rw (e, k), rw (e, k))
-
-module _ (phones index dat store word tag : List ℕ) where
-  -- 01's rule on the store's entries
-  abbrev pub finding : Finding
-  finding = find (entries store) phones index dat word (wantedTag tag)
-
-  unfoldable pub lookup : List ℕ → Answer
-  lookup out =
-      if not (isLexicon phones index) then refused 1 0
-      else if not (isSound store) then refused 2 0
-      else if not (isWord word && isWord tag) then refused 3 0
-      else toldFinding finding out
-
-  -- the output at exit
-  unfoldable pub lookedUp : List ℕ → List ℕ
-  lookedUp out = written (lookup out) out (withFinding finding out)
-
-  -- lookup on a store's bytes is lookup on its entries
-  pub lookup-on-entries : (out : List ℕ) → isLexicon phones index ≡ true → isSound store ≡ true → (isWord word && isWord tag) ≡ true
-      → (lookup out ≡ toldFinding (find (entries store) phones index dat word (wantedTag tag)) out)
-      × (lookedUp out ≡ outFinding (find (entries store) phones index dat word (wantedTag tag)) out)
-  unfolding lookup lookedUp
-  lookup-on-entries out f s w = (rw (f, s, w), rw (f, s, w))

@@ -10,10 +10,7 @@ ghost use Rattle.cells.specs.Cells.{asciiPhones};
 ghost use Rattle.data.specs.Sections.{isPhoneTable};
 ghost use Rattle.store.specs.Store.{isSound};
 ghost use Rattle.store.specs.Adding.{entryFor, isFull, kept};
-ghost use Rattle.answers.specs.Told.{toldDone};
-ghost use Rattle.lexicon.specs.Adding.{addedTag, mayAdd, mayAddCell, mayAddAll, addEntry, storeAfter};
-use answers::Done;
-use answers::Refusal;
+ghost use Rattle.lexicon.specs.Adding.{addedTag, mayAdd, mayAddCell, mayAddAll};
 
 // The first byte of a tag, "0" where there is none.
 pub fn first_or_any(tag: &[u8]) -> u8
@@ -55,7 +52,7 @@ fn may_add_cell(table: &[u8], list: &[u8], i: usize) -> bool
 }
 
 // Whether every phone of a list may be added.
-fn may_add_all(table: &[u8], list: &[u8]) -> bool
+pub fn may_add_all(table: &[u8], list: &[u8]) -> bool
     requires { ⌜ isPhoneTable (now table) ≡ true ⌝ }
     ensures { λ r. ⌜ r ≡ mayAddAll (now (table .entry)) (now (list .entry)) ⌝ }
 {
@@ -71,7 +68,7 @@ fn may_add_all(table: &[u8], list: &[u8]) -> bool
 }
 
 // Whether word, tag and phones are texts that the store may hold.
-fn are_texts(word: &[u8], tag: &[u8], phones: &[u8]) -> bool
+pub fn are_texts(word: &[u8], tag: &[u8], phones: &[u8]) -> bool
     ensures { λ r. ⌜ r ≡ (isWord (now (word .entry)) && isWord (now (tag .entry)) && asciiPhones (now (phones .entry))) ⌝ }
 {
     if !texts::is_word(word) {
@@ -102,29 +99,4 @@ pub fn add_folded(store: &mut [u8], tag: u8, word: &[u8], phones: &[u8]) -> bool
 {
     let mut room = [0u8; 47];
     add_from(&mut room, store, tag, word, phones)
-}
-
-pub fn add_entry(table: &[u8], store: &mut [u8], word: &[u8], tag: &[u8], phones: &[u8]) -> Done
-    ensures { λ r. ⌜ toldDone r ≡ addEntry (now (table .entry)) (now (store .entry)) (now (word .entry)) (now (tag .entry)) (now (phones .entry)) ⌝ }
-    ensures { λ _. ⌜ now (store .exit) ≡ storeAfter (now (table .entry)) (now (store .entry)) (now (word .entry)) (now (tag .entry)) (now (phones .entry)) ⌝ }
-{
-    if !data::is_phone_table(table) {
-        return Done::Refused(Refusal::Section);
-    }
-    if !store::is_sound(store) {
-        return Done::Refused(Refusal::Unsound);
-    }
-    if !are_texts(word, tag, phones) {
-        return Done::Refused(Refusal::Text);
-    }
-    if !may_add_all(table, phones) {
-        return Done::Refused(Refusal::UnknownPhone);
-    }
-    if 24 < phones.len() / 16 {
-        return Done::Refused(Refusal::Phones);
-    }
-    if add_folded(store, added_tag(tag), word, phones) {
-        return Done::Accepted;
-    }
-    Done::Refused(Refusal::Full)
 }

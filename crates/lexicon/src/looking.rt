@@ -15,8 +15,7 @@ ghost use Rattle.compiled.specs.Call.{isLexicon};
 ghost use Rattle.compiled.specs.Entries.{isSpoken, phonesOf as spokenOf};
 ghost use Rattle.answers.specs.Told.{toldLooked};
 ghost use Rattle.answers.specs.declared.Source.the-variants.{Runtime, Addenda, Compiled};
-ghost use Rattle.lexicon.specs.Lookup.{found, spoken, find as findOf, fromCompiled, toldFinding, outFinding, lookup as lookupOf, lookedUp};
-use crate::adding;
+ghost use Rattle.lexicon.specs.Lookup.{found, spoken, find as findOf, fromCompiled, toldFinding, outFinding};
 use answers::Looked;
 use answers::Refusal;
 use answers::Source;
@@ -154,38 +153,4 @@ pub fn find(
         return give_row(row, out);
     }
     give_compiled(phones, places, index, dat, word, tag, out)
-}
-
-pub fn lookup(
-    phones: &[u8],
-    index: &[u8],
-    dat: &[u8],
-    store: &[u8],
-    word: &[u8],
-    tag: &[u8],
-    out: &mut [u8],
-) -> Looked
-    ensures { λ r. ⌜ toldLooked r ≡ lookupOf (now (phones .entry)) (now (index .entry)) (now (dat .entry)) (now (store .entry)) (now (word .entry)) (now (tag .entry)) (now (out .entry)) ⌝ }
-    ensures { λ _. ⌜ now (out .exit) ≡ lookedUp (now (phones .entry)) (now (index .entry)) (now (dat .entry)) (now (store .entry)) (now (word .entry)) (now (tag .entry)) (now (out .entry)) ⌝ }
-{
-    let mut places = [0u16; 256];
-    if !compiled::read_lexicon(phones, index, &mut places) {
-        return Looked::Refused(Refusal::Section);
-    }
-    if !store::is_sound(store) {
-        return Looked::Refused(Refusal::Unsound);
-    }
-    if !texts::both(texts::is_word(word), texts::is_word(tag)) {
-        return Looked::Refused(Refusal::Text);
-    }
-    find(
-        phones,
-        &places,
-        index,
-        dat,
-        store,
-        word,
-        adding::first_or_any(tag),
-        out,
-    )
 }

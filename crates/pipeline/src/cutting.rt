@@ -10,7 +10,7 @@ ghost use Rattle.cells.specs.Cells.{phonesOf, cellsOf};
 ghost use Rattle.phoneset.specs.Stress.{digits, bare as bareOf};
 ghost use Rattle.onsets.specs.Onsets.{onsets};
 ghost use Rattle.syllabify.specs.Syllables.{marks as marksOf};
-ghost use Rattle.pipeline.specs.Cutting.{stressed as stressedOf, cutsOf};
+ghost use Rattle.wordlaws.specs.Cutting.{stressed as stressedOf, cutsOf};
 
 // A phone without its stress.
 fn bare_phone(phone: &[u8]) -> &[u8]

@@ -5,4 +5,5 @@ mod saying;
 
 pub use cutting::prepare;
 pub use pronouncing::pronounce;
-pub use saying::say_word;
+pub use saying::read_sections;
+pub use saying::say;

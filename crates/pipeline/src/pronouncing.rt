@@ -8,9 +8,9 @@ ghost use Rattle.store.specs.Store.{isSound, entries};
 ghost use Rattle.compiled.specs.Call.{isLexicon};
 ghost use Rattle.lts.specs.Letters.{isTrees, letters};
 ghost use Rattle.answers.specs.Told.{toldPredicted};
-ghost use Rattle.pipeline.specs.Pronounced.{pronounced};
-ghost use Rattle.pipeline.specs.Cutting.{toldSpoken, cellsSpoken};
-ghost use Rattle.pipeline.specs.ChosenSource.{toldBehind, roomBehind};
+ghost use Rattle.wordlaws.specs.Pronounced.{pronounced};
+ghost use Rattle.wordlaws.specs.Cutting.{toldSpoken, cellsSpoken};
+ghost use Rattle.wordlaws.specs.ChosenSource.{toldBehind, roomBehind};
 use answers::Looked;
 use answers::Predicted;
 

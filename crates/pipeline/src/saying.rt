@@ -1,4 +1,4 @@
-// say word (01, Store and sheet): a word pronounced and put last on the sheet.
+// A word pronounced and put last on a sound sheet (01, Store and sheet).
 ghost use mathlib.Core.Path.{_≡_};
 ghost use mathlib.Core.Bool.{true, _&&_};
 ghost use Prim.Native.Nat.{_*_, _/_, _≤_};
@@ -11,8 +11,8 @@ ghost use Rattle.lts.specs.Letters.{isTrees};
 ghost use Rattle.utterance.specs.Sheet.{isSound as isSheet};
 ghost use Rattle.utterance.specs.Append.{appended};
 ghost use Rattle.answers.specs.Told.{toldSaid, written};
-ghost use Rattle.pipeline.specs.Pronounced.{pronounced, said as saidOf};
-ghost use Rattle.pipeline.specs.SayWord.{placed, onSpoken, withSpoken, sayWord, sheetAfter};
+ghost use Rattle.wordlaws.specs.Pronounced.{pronounced, said as saidOf};
+ghost use Rattle.wordlaws.specs.Placing.{placed, onSpoken, withSpoken};
 use crate::cutting;
 use crate::pronouncing;
 use answers::Predicted;
@@ -59,7 +59,7 @@ fn put(sheet: &mut [u8], word: &[u8], phones: &[u8]) -> Said
 }
 
 // A word pronounced and put last; room is for its phones.
-fn say(
+pub fn say(
     phones: &[u8],
     places: &[u16],
     index: &[u8],
@@ -100,7 +100,7 @@ fn say(
 }
 
 // Whether the sections have their form; the places of their tables' phones, if they have.
-fn read_sections(
+pub fn read_sections(
     phones: &[u8],
     index: &[u8],
     sounds: &[u8],
@@ -117,56 +117,4 @@ fn read_sections(
         return false;
     }
     lts::read_trees(sounds, starts, model, spots)
-}
-
-pub fn say_word(
-    phones: &[u8],
-    index: &[u8],
-    dat: &[u8],
-    sounds: &[u8],
-    starts: &[u8],
-    model: &[u8],
-    store: &[u8],
-    sheet: &mut [u8],
-    word: &[u8],
-    tag: &[u8],
-) -> Said
-    ensures { λ r. ⌜ toldSaid r ≡ sayWord (record { lexPhones = now (phones .entry); lexIndex = now (index .entry); lexData = now (dat .entry); ltsPhones = now (sounds .entry); ltsIndex = now (starts .entry); ltsModel = now (model .entry) }) (now (store .entry)) (now (sheet .entry)) (now (word .entry)) (now (tag .entry)) ⌝ }
-    ensures { λ _. ⌜ now (sheet .exit) ≡ sheetAfter (record { lexPhones = now (phones .entry); lexIndex = now (index .entry); lexData = now (dat .entry); ltsPhones = now (sounds .entry); ltsIndex = now (starts .entry); ltsModel = now (model .entry) }) (now (store .entry)) (now (sheet .entry)) (now (word .entry)) (now (tag .entry)) ⌝ }
-{
-    let mut places = [0u16; 256];
-    let mut spots = [0u16; 256];
-    if !read_sections(
-        phones,
-        index,
-        sounds,
-        starts,
-        model,
-        &mut places,
-        &mut spots,
-    ) {
-        return Said::Refused(Refusal::Section);
-    }
-    if !texts::both(store::is_sound(store), utterance::is_sound(sheet)) {
-        return Said::Refused(Refusal::Unsound);
-    }
-    if !texts::both(texts::is_word(word), texts::is_word(tag)) {
-        return Said::Refused(Refusal::Text);
-    }
-    let mut room = [0u8; 1536];
-    say(
-        phones,
-        &places,
-        index,
-        dat,
-        sounds,
-        &spots,
-        starts,
-        model,
-        store,
-        sheet,
-        word,
-        tag,
-        &mut room,
-    )
 }

@@ -10,12 +10,12 @@ ghost use Rattle.lts.specs.Call.{predict, predicted};
 ghost use Rattle.language.specs.Call.{isSayable};
 ghost use Rattle.store.specs.Store.{newStore, newBytes};
 ghost use Rattle.compiled.specs.Call.{checkLexicon};
-ghost use Rattle.lexicon.specs.Lookup.{lookup, lookedUp};
-ghost use Rattle.lexicon.specs.Adding.{addEntry, storeAfter};
+ghost use Rattle.lookup.specs.Lookup.{lookup, lookedUp};
+ghost use Rattle.add_entry.specs.AddEntry.{addEntry, storeAfter};
 ghost use Rattle.addtext.specs.Call.{addEntries, storeAfter as storeBehind, spareAfter as spareBehind};
 ghost use Rattle.utterance.specs.Sheet.{newSheet, newBytes as newSheetBytes};
 ghost use Rattle.phonestring.specs.PhoneString.{phoneString, stringAfter};
-ghost use Rattle.pipeline.specs.SayWord.{sayWord, sheetAfter};
+ghost use Rattle.say_word.specs.SayWord.{sayWord, sheetAfter};
 use answers::Answer;
 
 // lex.phones, lex.index, lex.data
@@ -40,7 +40,7 @@ pub extern "C" fn pronouncer_lookup(
     ensures { λ r. ⌜ r ≡ lookup (now (phones .entry)) (now (index .entry)) (now (dat .entry)) (now (store .entry)) (now (word .entry)) (now (tag .entry)) (now (out .entry)) ⌝ }
     ensures { λ _. ⌜ now (out .exit) ≡ lookedUp (now (phones .entry)) (now (index .entry)) (now (dat .entry)) (now (store .entry)) (now (word .entry)) (now (tag .entry)) (now (out .entry)) ⌝ }
 {
-    answers::told_looked(lexicon::lookup(phones, index, dat, store, word, tag, out))
+    answers::told_looked(lookup::lookup(phones, index, dat, store, word, tag, out))
 }
 
 // lts.phones, lts.index, lts.model, a word, an output
@@ -96,7 +96,7 @@ pub extern "C" fn pronouncer_add_entry(
     ensures { λ r. ⌜ r ≡ addEntry (now (table .entry)) (now (store .entry)) (now (word .entry)) (now (tag .entry)) (now (phones .entry)) ⌝ }
     ensures { λ _. ⌜ now (store .exit) ≡ storeAfter (now (table .entry)) (now (store .entry)) (now (word .entry)) (now (tag .entry)) (now (phones .entry)) ⌝ }
 {
-    answers::told_done(lexicon::add_entry(table, store, word, tag, phones))
+    answers::told_done(add_entry::add_entry(table, store, word, tag, phones))
 }
 
 // lex.phones, a store, a spare, a text
@@ -149,7 +149,7 @@ pub extern "C" fn pronouncer_say_word(
     ensures { λ r. ⌜ r ≡ sayWord (record { lexPhones = now (phones .entry); lexIndex = now (index .entry); lexData = now (dat .entry); ltsPhones = now (sounds .entry); ltsIndex = now (starts .entry); ltsModel = now (model .entry) }) (now (store .entry)) (now (sheet .entry)) (now (word .entry)) (now (tag .entry)) ⌝ }
     ensures { λ _. ⌜ now (sheet .exit) ≡ sheetAfter (record { lexPhones = now (phones .entry); lexIndex = now (index .entry); lexData = now (dat .entry); ltsPhones = now (sounds .entry); ltsIndex = now (starts .entry); ltsModel = now (model .entry) }) (now (store .entry)) (now (sheet .entry)) (now (word .entry)) (now (tag .entry)) ⌝ }
 {
-    answers::told_said(pipeline::say_word(
+    answers::told_said(say_word::say_word(
         phones,
         index,
         dat,

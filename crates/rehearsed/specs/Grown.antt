@@ -22,9 +22,11 @@ use Rattle.store.specs.Sound.{Sound, is-sound, entries-are}
 use Rattle.compiled.specs.Call.{isLexicon}
 use Rattle.answers.specs.declared.Source.{Source}
 use Rattle.answers.specs.Told.{accepted, sourceNumber}
-use Rattle.lexicon.specs.Adding.{mayAdd, mayAddCell, mayAddAll, newEntry, addEntry, storeAfter}
-use Rattle.lexicon.specs.Accepted.{add-law}
-use Rattle.lexicon.specs.Lookup.{Finding, found, find, wantedTag, toldFinding, outFinding, found-fits, lookup, lookedUp, lookup-on-entries}
+use Rattle.lexicon.specs.Adding.{mayAdd, mayAddCell, mayAddAll, newEntry}
+use Rattle.add_entry.specs.AddEntry.{addEntry, storeAfter}
+use Rattle.add_entry.specs.Accepted.{add-law}
+use Rattle.lexicon.specs.Lookup.{Finding, found, find, wantedTag, toldFinding, outFinding, found-fits}
+use Rattle.lookup.specs.Lookup.{lookup, lookedUp, lookup-on-entries}
 
 -- an entry to be added: a word, a tag, its phones as cells
 pub record Add : Type 0 where

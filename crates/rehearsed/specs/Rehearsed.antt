@@ -30,7 +30,8 @@ use Rattle.store.specs.Adding.{adding, without, entryFor}
 use Rattle.store.specs.Fresh.{fresh, length-fresh, fresh-sound, fresh-entries}
 use Rattle.compiled.specs.Call.{isLexicon, lexicon-table}
 use Rattle.lexicon.specs.Adding.{newEntry, addedTag}
-use Rattle.lexicon.specs.Lookup.{found, find, wantedTag, lookup, lookedUp}
+use Rattle.lexicon.specs.Lookup.{found, find, wantedTag}
+use Rattle.lookup.specs.Lookup.{lookup, lookedUp}
 use Rattle.answers.specs.declared.Source.{Source}
 use Rattle.answers.specs.declared.Source.the-variants.{Runtime, Addenda}
 use Rattle.rehearsed.specs.Grown.{Add, grown, AllAccepted, book, isOwn, isPlain, grow, answered}

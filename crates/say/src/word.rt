@@ -17,9 +17,9 @@ pub fn tell(
     let word = records::head(field, slash);
     let tag = records::tail(records::tail(field, slash), 1);
     console::write(field);
-    if telling::tell_looked(lexicon::lookup(phones, index, dat, store, word, tag, &mut room)) {
+    if telling::tell_looked(lookup::lookup(phones, index, dat, store, word, tag, &mut room)) {
         utterance::new_sheet(sheet);
-        let said = pipeline::say_word(
+        let said = say_word::say_word(
             phones,
             index,
             dat,

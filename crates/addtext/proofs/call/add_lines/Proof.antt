@@ -13,7 +13,7 @@ use Rattle.lines.specs.Lines.{firstLine, afterLine, lines}
 use Rattle.lines.specs.Ascii.{ascii-line}
 use Rattle.store.specs.Store.{isSound}
 use Rattle.store.specs.Sound.{sound, is-sound}
-use Rattle.addtext.specs.Line.{readLine, behindLine}
+use Rattle.entryline.specs.Line.{readLine, behindLine}
 use Rattle.addtext.specs.Call.{Filled, onward, filled}
 use Rattle.addtext.specs.Turns.{filled-turn, filled-end}
 use Rattle.addtext.specs.Accepted.{low-line, line-sound}

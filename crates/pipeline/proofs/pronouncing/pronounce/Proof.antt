@@ -14,9 +14,9 @@ use Rattle.answers.specs.Told.{toldLooked}
 use Rattle.lts.specs.Letters.{letters}
 use Rattle.store.specs.Store.{entries}
 use Rattle.lexicon.specs.Lookup.{Finding, find, wantedTag, toldFinding, outFinding}
-use Rattle.pipeline.specs.Pronounced.{pronounced}
-use Rattle.pipeline.specs.Sources.{letters-few}
-use Rattle.pipeline.specs.ChosenSource.{lookup-refused, lookup-followed}
+use Rattle.wordlaws.specs.Pronounced.{pronounced}
+use Rattle.wordlaws.specs.Sources.{letters-few}
+use Rattle.wordlaws.specs.ChosenSource.{lookup-refused, lookup-followed}
 use Rattle.answers.proofs.Looked as looked
 use Rattle.pipeline.proofs.pronouncing.pronounce.Tie as tie
 

@@ -13,8 +13,8 @@ use Rattle.utterance.specs.Sheet.{used, items}
 use Rattle.utterance.specs.Append.{size, sizeIn, appended}
 use Rattle.utterance.specs.Decided.{sound}
 use Rattle.utterance.specs.Appended.{few, last-word-in, last-phone-in}
-use Rattle.pipeline.specs.Pronounced.{said}
-use Rattle.pipeline.specs.Handed.{Handed, handed}
+use Rattle.wordlaws.specs.Pronounced.{said}
+use Rattle.wordlaws.specs.Handed.{Handed, handed}
 use Rattle.pipeline.proofs.saying.put_cut.Tie as tie
 
 given : (c : tie.After-head2) → Handed (c .before .before .before .before .before .before .before .before .before .before .before .before .before .before .before .before .before .before .before .before .args .phones .now) (c .before .before .head .result .now) (c .head2 .result .now)

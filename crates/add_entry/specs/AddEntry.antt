@@ -1,0 +1,30 @@
+-- 01, Lookup: Adding. add entry as a call: its refusals 1, 2, 3, 5, 7 and 8, and the store at exit.
+-- Assumes nothing.
+use Prim.Native.Nat.{ℕ, _/_}
+use mathlib.Core.Bool.{not, _&&_}
+use mathlib.Core.List.{List}
+use lib.Dec.{ltb}
+use lib.ListN.{length}
+use Rattle.texts.specs.Choice.{if_then_else_}
+use Rattle.texts.specs.Text.{isWord}
+use Rattle.cells.specs.Cells.{asciiPhones}
+use Rattle.data.specs.Sections.{isPhoneTable}
+use Rattle.store.specs.Store.{isSound}
+use Rattle.store.specs.Adding.{added, isFull}
+use Rattle.answers.specs.declared.Answer.{Answer}
+use Rattle.answers.specs.Told.{refused, accepted, written}
+use Rattle.lexicon.specs.Adding.{newEntry, mayAddAll}
+
+unfoldable pub addEntry : List ℕ → List ℕ → List ℕ → List ℕ → List ℕ → Answer
+addEntry table store word tag phones =
+    if not (isPhoneTable table) then refused 1 0
+    else if not (isSound store) then refused 2 0
+    else if not (isWord word && isWord tag && asciiPhones phones) then refused 3 0
+    else if not (mayAddAll table phones) then refused 5 0
+    else if ltb 24 (length phones / 16) then refused 7 0
+    else if isFull store (newEntry word tag phones) then refused 8 0
+    else accepted 0 0
+
+-- the store at exit
+unfoldable pub storeAfter : List ℕ → List ℕ → List ℕ → List ℕ → List ℕ → List ℕ
+storeAfter table store word tag phones = written (addEntry table store word tag phones) store (added store (newEntry word tag phones))

@@ -1,0 +1,2 @@
+pub mod AddEntry
+pub mod Accepted

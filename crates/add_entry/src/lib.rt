@@ -1,0 +1,31 @@
+// add entry (01, Lookup: Adding).
+ghost use mathlib.Core.Path.{_≡_};
+ghost use Rattle.answers.specs.Told.{toldDone};
+ghost use Rattle.add_entry.specs.AddEntry.{addEntry, storeAfter};
+use answers::Done;
+use answers::Refusal;
+
+pub fn add_entry(table: &[u8], store: &mut [u8], word: &[u8], tag: &[u8], phones: &[u8]) -> Done
+    ensures { λ r. ⌜ toldDone r ≡ addEntry (now (table .entry)) (now (store .entry)) (now (word .entry)) (now (tag .entry)) (now (phones .entry)) ⌝ }
+    ensures { λ _. ⌜ now (store .exit) ≡ storeAfter (now (table .entry)) (now (store .entry)) (now (word .entry)) (now (tag .entry)) (now (phones .entry)) ⌝ }
+{
+    if !data::is_phone_table(table) {
+        return Done::Refused(Refusal::Section);
+    }
+    if !store::is_sound(store) {
+        return Done::Refused(Refusal::Unsound);
+    }
+    if !lexicon::are_texts(word, tag, phones) {
+        return Done::Refused(Refusal::Text);
+    }
+    if !lexicon::may_add_all(table, phones) {
+        return Done::Refused(Refusal::UnknownPhone);
+    }
+    if 24 < phones.len() / 16 {
+        return Done::Refused(Refusal::Phones);
+    }
+    if lexicon::add_folded(store, lexicon::added_tag(tag), word, phones) {
+        return Done::Accepted;
+    }
+    Done::Refused(Refusal::Full)
+}

@@ -1,0 +1,2 @@
+pub mod Phones
+pub mod Line

@@ -1,0 +1,27 @@
+-- 01, Store and sheet: say word as a call: its refusals 1, 2, 3, 6, 7 and 9, and the sheet at exit.
+-- Assumes nothing.
+use Prim.Native.Nat.{ℕ}
+use mathlib.Core.Bool.{not, _&&_}
+use mathlib.Core.List.{List}
+use Rattle.texts.specs.Choice.{if_then_else_}
+use Rattle.texts.specs.Text.{isWord}
+use Rattle.lts.specs.Letters.{isTrees}
+use Rattle.store.specs.Store.{entries, isSound}
+use Rattle.compiled.specs.Call.{isLexicon}
+use Rattle.utterance.specs.Sheet.{isSound as isSheet}
+use Rattle.answers.specs.declared.Answer.{Answer}
+use Rattle.answers.specs.Told.{refused, written}
+use Rattle.wordlaws.specs.Pronounced.{Sections, pronounced}
+use Rattle.wordlaws.specs.Placing.{onSpoken, withSpoken}
+
+module _ (c : Sections) (store sheet word tag : List ℕ) where
+  unfoldable pub sayWord : Answer
+  sayWord =
+      if not (isLexicon (c .lexPhones) (c .lexIndex) && isTrees (c .ltsPhones) (c .ltsIndex) (c .ltsModel)) then refused 1 0
+      else if not (isSound store && isSheet sheet) then refused 2 0
+      else if not (isWord word && isWord tag) then refused 3 0
+      else onSpoken sheet word (pronounced c (entries store) word tag)
+
+  -- the sheet at exit
+  unfoldable pub sheetAfter : List ℕ
+  sheetAfter = written sayWord sheet (withSpoken sheet word (pronounced c (entries store) word tag))
