@@ -12,16 +12,16 @@ use Rattle.texts.specs.Choice.{cases}
 use Rattle.texts.specs.Text.{isWord}
 use Rattle.cells.specs.Cells.{asciiPhones}
 use Rattle.data.specs.Sections.{isPhoneTable}
-use Rattle.slots.specs.Slot.{Fits}
-use Rattle.store.specs.Store.{isSound}
-use Rattle.store.specs.Adding.{isFull}
-use Rattle.store.specs.Sound.{Sound, sound}
-use Rattle.store.specs.Result.{Added}
-use Rattle.store.specs.Added.{room}
+use Rattle.slots_spec.specs.Slot.{Fits}
+use Rattle.store_spec.specs.Store.{isSound}
+use Rattle.store_spec.specs.Adding.{isFull}
+use Rattle.store_spec.specs.Sound.{Sound, sound}
+use Rattle.store_spec.specs.Result.{Added}
+use Rattle.store_spec.specs.Added.{room}
 use Rattle.answers.specs.declared.Answer.{Answer}
 use Rattle.answers.specs.Told.{refused, accepted}
-use Rattle.lexicon.specs.Adding.{newEntry, mayAddAll}
-use Rattle.lexicon.specs.Fitting.{new-fits}
+use Rattle.lexicon_spec.specs.Adding.{newEntry, mayAddAll}
+use Rattle.lexicon_spec.specs.Fitting.{new-fits}
 use Rattle.add_entry.specs.AddEntry.{addEntry, storeAfter}
 
 -- an answer that is both a refusal and accepted is none

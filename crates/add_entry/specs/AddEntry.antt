@@ -9,11 +9,11 @@ use Rattle.texts.specs.Choice.{if_then_else_}
 use Rattle.texts.specs.Text.{isWord}
 use Rattle.cells.specs.Cells.{asciiPhones}
 use Rattle.data.specs.Sections.{isPhoneTable}
-use Rattle.store.specs.Store.{isSound}
-use Rattle.store.specs.Adding.{added, isFull}
+use Rattle.store_spec.specs.Store.{isSound}
+use Rattle.store_spec.specs.Adding.{added, isFull}
 use Rattle.answers.specs.declared.Answer.{Answer}
 use Rattle.answers.specs.Told.{refused, accepted, written}
-use Rattle.lexicon.specs.Adding.{newEntry, mayAddAll}
+use Rattle.lexicon_spec.specs.Adding.{newEntry, mayAddAll}
 
 unfoldable pub addEntry : List ℕ → List ℕ → List ℕ → List ℕ → List ℕ → Answer
 addEntry table store word tag phones =

@@ -15,16 +15,16 @@ pub fn add_entry(table: &[u8], store: &mut [u8], word: &[u8], tag: &[u8], phones
     if !store::is_sound(store) {
         return Done::Refused(Refusal::Unsound);
     }
-    if !lexicon::are_texts(word, tag, phones) {
+    if !adding::are_texts(word, tag, phones) {
         return Done::Refused(Refusal::Text);
     }
-    if !lexicon::may_add_all(table, phones) {
+    if !adding::may_add_all(table, phones) {
         return Done::Refused(Refusal::UnknownPhone);
     }
     if 24 < phones.len() / 16 {
         return Done::Refused(Refusal::Phones);
     }
-    if lexicon::add_folded(store, lexicon::added_tag(tag), word, phones) {
+    if adding::add_folded(store, adding::added_tag(tag), word, phones) {
         return Done::Accepted;
     }
     Done::Refused(Refusal::Full)

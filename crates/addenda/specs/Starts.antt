@@ -2,14 +2,14 @@
 -- Assumes nothing.
 use Prim.Native.Nat.{ℕ}
 use mathlib.Core.Path.{_≡_, refl, sym, ap, _∙_}
-use mathlib.Core.Bool.{Bool, true, false, _&&_}
+use mathlib.Core.Bool.{Bool, true, false}
 use mathlib.Core.List.{List, [], _∷_}
 use lib.Dec.{eqb}
 use lib.ListN.{length, getD}
-use borrow.Author.Tests.{eqb-true, eqb-false, eq-eqb, ne-eqb}
+use borrow.Author.Tests.{eqb-false, ne-eqb}
 use Rattle.texts.specs.Choice.{if_then_else_, cases, both-true, never}
 use Rattle.texts.specs.Lists.{every, some, place}
-use Rattle.texts.specs.Text.{same, ne-same}
+use Rattle.texts.specs.Text.{ne-same}
 use Rattle.addenda.specs.Addenda.{Addendum, addenda}
 use Rattle.addenda.specs.Find.{isMeant}
 use Rattle.addenda.specs.Rules.{addenda-count}

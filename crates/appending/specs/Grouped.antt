@@ -13,7 +13,7 @@ use lib.Seq.{getD-drop, drop-drop}
 use borrow.Author.Tests.{eqb-true, eq-eqb, ne-eqb}
 use Rattle.texts.specs.Choice.{cases}
 use Rattle.texts.specs.Lists.{place, place-turn, place-stop, place-end}
-use Rattle.appending.specs.Cuts.{grouped, Ended}
+use Rattle.utterance_spec.specs.Cuts.{grouped, Ended}
 
 -- a cut ends a syllable
 unfoldable pub ends : ℕ → Bool

@@ -1,4 +1,3 @@
-pub mod Cuts
 pub mod Grouped
 pub mod Numbers
 pub mod Putting

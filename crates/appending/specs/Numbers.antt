@@ -12,9 +12,9 @@ use lib.Seq.{length-take-le}
 use Rattle.texts.specs.Choice.{cases}
 use Rattle.texts.specs.Lists.{from, length-from}
 use Rattle.records.specs.Chain.{endOf, end-append}
-use Rattle.utterance.specs.Tree.{Syllable, syllablesAt, phonesIn}
-use Rattle.utterance.specs.Append.{headOr, sizeIn, numbered}
-use Rattle.appending.specs.Cuts.{onHead, grouped, Ended}
+use Rattle.utterance_spec.specs.Tree.{Syllable, syllablesAt, phonesIn}
+use Rattle.utterance_spec.specs.Append.{headOr, sizeIn, numbered}
+use Rattle.utterance_spec.specs.Cuts.{onHead, grouped, Ended}
 use Rattle.appending.specs.Grouped.{span, end-behind, grouped-from}
 
 -- the first and the last of n numbers from k on

@@ -12,10 +12,10 @@ use Rattle.records.specs.Records.{putRecord}
 use Rattle.records.specs.Chain.{endOf}
 use Rattle.items.specs.Item.{Item, item}
 use Rattle.items.specs.Written.{length-item}
-use Rattle.utterance.specs.Tree.{Syllable, syllablesAt}
-use Rattle.utterance.specs.Append.{headOr, sizeIn, size, numbered, phoneItems, syllableItems, wordItems, putItems, tied, appended}
-use Rattle.utterance.specs.Sheet.{at, used}
-use Rattle.appending.specs.Cuts.{grouped, Ended}
+use Rattle.utterance_spec.specs.Tree.{Syllable, syllablesAt}
+use Rattle.utterance_spec.specs.Append.{headOr, sizeIn, size, numbered, phoneItems, syllableItems, wordItems, putItems, tied, appended}
+use Rattle.utterance_spec.specs.Sheet.{at, used}
+use Rattle.utterance_spec.specs.Cuts.{grouped, Ended}
 use Rattle.appending.specs.Grouped.{span, end-behind, grouped-from}
 use Rattle.appending.specs.Numbers.{head-some, end-from, syllable-at, phone-at, phone-last, grouped-end, numbered-turn, phones-long}
 

@@ -10,10 +10,10 @@ ghost use Rattle.records.specs.Records.{putRecord};
 ghost use Rattle.records.specs.Chain.{endOf};
 ghost use Rattle.cells.specs.Cells.{phonesOf};
 ghost use Rattle.items.specs.Item.{item as itemBytes};
-ghost use Rattle.utterance.specs.Tree.{syllablesAt};
-ghost use Rattle.utterance.specs.Sheet.{at, used as usedOf, items};
-ghost use Rattle.utterance.specs.Append.{headOr, sizeIn, numbered, phoneItems, wordItems, putItems, tied, appended};
-ghost use Rattle.appending.specs.Cuts.{grouped, Ended};
+ghost use Rattle.utterance_spec.specs.Tree.{syllablesAt};
+ghost use Rattle.utterance_spec.specs.Sheet.{at, used as usedOf, items};
+ghost use Rattle.utterance_spec.specs.Append.{headOr, sizeIn, numbered, phoneItems, wordItems, putItems, tied, appended};
+ghost use Rattle.utterance_spec.specs.Cuts.{grouped, Ended};
 ghost use Rattle.appending.specs.Grouped.{span};
 ghost use Rattle.appending.specs.Putting.{phoneItem, oneSyllable, syllablesFrom};
 

@@ -4,13 +4,13 @@ use Prim.Native.Nat.{ℕ}
 use mathlib.Core.Bool.{Bool}
 use mathlib.Core.List.{List, [], _∷_, _++_}
 use Rattle.texts.specs.Choice.{if_then_else_}
-use Rattle.slots.specs.Slot.{Entry}
-use Rattle.store.specs.Adding.{adding}
-use Rattle.lexicon.specs.Adding.{newEntry}
+use Rattle.slots_spec.specs.Slot.{Entry}
+use Rattle.store_spec.specs.Adding.{adding}
+use Rattle.lexicon_spec.specs.Adding.{newEntry}
 use Rattle.lines.specs.Lines.{lines}
-use Rattle.addtext.specs.Call.{lineEntries, addingAll}
-use Rattle.utterance.specs.Tree.{Word}
-use Rattle.wordlaws.specs.Pronounced.{Sections, Spoken, barred, phones, pronounced, said}
+use Rattle.addtext_spec.specs.Filling.{lineEntries, addingAll}
+use Rattle.utterance_spec.specs.Tree.{Word}
+use Rattle.pipeline_spec.specs.Pronounced.{Sections, Spoken, barred, phones, pronounced, said}
 use Rattle.book.specs.Calls.{Call, makeSheet, addsEntry, addsText, saysWord, Made, State, step, isRefused}
 
 -- entries and words, at first none

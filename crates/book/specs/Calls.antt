@@ -4,12 +4,12 @@ use Prim.Native.Nat.{ℕ}
 use mathlib.Core.Bool.{Bool, not}
 use mathlib.Core.List.{List, [], _∷_}
 use lib.Dec.{eqb}
-use Rattle.store.specs.Store.{newBytes as newStoreBytes}
+use Rattle.new_store.specs.NewStore.{newBytes as newStoreBytes}
 use Rattle.add_entry.specs.AddEntry.{addEntry, storeAfter as storeAfterEntry}
-use Rattle.addtext.specs.Call.{addEntries, storeAfter as storeAfterText}
-use Rattle.utterance.specs.Sheet.{newSheet, newBytes}
+use Rattle.add_entries.specs.AddEntries.{addEntries, storeAfter as storeAfterText}
+use Rattle.new_sheet.specs.NewSheet.{newSheet, newBytes}
 use Rattle.answers.specs.declared.Answer.{Answer}
-use Rattle.wordlaws.specs.Pronounced.{Sections}
+use Rattle.pipeline_spec.specs.Pronounced.{Sections}
 use Rattle.say_word.specs.SayWord.{sayWord, sheetAfter}
 
 -- a call, with its arguments other than store, sheet and spare

@@ -11,33 +11,36 @@ use lib.ListN.{length}
 use borrow.Author.Tests.{eqb-true, leb-false}
 use Rattle.texts.specs.Choice.{if_then_else_, both-true, cases}
 use Rattle.texts.specs.Text.{isWord}
-use Rattle.slots.specs.Slot.{Entry}
-use Rattle.store.specs.Store.{entries, isStoreLength, isSound as isStore, newStore, newBytes as newStoreBytes}
-use Rattle.store.specs.Sound.{Sound as SoundStore}
-use Rattle.store.specs.Adding.{adding}
-use Rattle.store.specs.Fresh.{fresh as freshStore, fresh-sound, fresh-entries}
+use Rattle.slots_spec.specs.Slot.{Entry}
+use Rattle.store_spec.specs.Store.{entries, isStoreLength, isSound as isStore}
+use Rattle.new_store.specs.NewStore.{newStore, newBytes as newStoreBytes}
+use Rattle.store_spec.specs.Sound.{Sound as SoundStore}
+use Rattle.store_spec.specs.Adding.{adding}
+use Rattle.new_store.specs.Fresh.{fresh as freshStore, fresh-sound, fresh-entries}
 use Rattle.lts.specs.Letters.{isTrees}
-use Rattle.compiled.specs.Call.{isLexicon}
-use Rattle.lexicon.specs.Adding.{newEntry}
+use Rattle.compiled_spec.specs.Lexicon.{isLexicon}
+use Rattle.lexicon_spec.specs.Adding.{newEntry}
 use Rattle.add_entry.specs.AddEntry.{addEntry, storeAfter}
 use Rattle.add_entry.specs.Accepted.{add-law, accepted-is}
 use Rattle.lines.specs.Lines.{lines}
-use Rattle.addtext.specs.Call.{lineEntries, addingAll, addEntries, storeAfter as storeAfterText}
-use Rattle.addtext.specs.Accepted.{text-law}
-use Rattle.utterance.specs.Tree.{Word}
-use Rattle.utterance.specs.Sheet.{used, items, reading, isSheetLength, isSound as isSheet, newSheet}
-use Rattle.utterance.specs.Sound.{Sound}
-use Rattle.utterance.specs.Append.{size}
-use Rattle.utterance.specs.Appended.{append-law, append-reads}
-use Rattle.utterance.specs.NewSheet.{new-sound, new-reads}
+use Rattle.addtext_spec.specs.Filling.{lineEntries, addingAll}
+use Rattle.add_entries.specs.AddEntries.{addEntries, storeAfter as storeAfterText}
+use Rattle.add_entries.specs.Accepted.{text-law}
+use Rattle.utterance_spec.specs.Tree.{Word}
+use Rattle.utterance_spec.specs.Sheet.{used, items, reading, isSheetLength, isSound as isSheet}
+use Rattle.new_sheet.specs.NewSheet.{newSheet}
+use Rattle.utterance_spec.specs.Sound.{Sound}
+use Rattle.utterance_spec.specs.Append.{size}
+use Rattle.utterance_spec.specs.Appended.{append-law, append-reads}
+use Rattle.new_sheet.specs.Fresh.{new-sound, new-reads}
 use Rattle.answers.specs.declared.Answer.{Answer}
-use Rattle.wordlaws.specs.Pronounced.{Sections, Spoken, barred, phones, pronounced, said}
-use Rattle.wordlaws.specs.Placing.{isCrowded, onSpoken as onSpokenAnswer, withSpoken}
+use Rattle.pipeline_spec.specs.Pronounced.{Sections, Spoken, barred, phones, pronounced, said}
+use Rattle.pipeline_spec.specs.Placing.{isCrowded, onSpoken as onSpokenAnswer, withSpoken}
 use Rattle.say_word.specs.SayWord.{sayWord, sheetAfter}
 use Rattle.book.specs.Calls.{Call, makeSheet, addsEntry, addsText, saysWord, Made, State, answer, step, isRefused, leaves, fresh}
 use Rattle.book.specs.Book.{Book, empty, onSpoken, accepts, keeps, hears}
-use Rattle.wordlaws.specs.Sources.{entries-fit}
-use Rattle.wordlaws.specs.Fits.{pronounced-fits}
+use Rattle.pipeline_spec.specs.Sources.{entries-fit}
+use Rattle.pipeline_spec.specs.Fits.{pronounced-fits}
 use Rattle.book.specs.MayStand.{phones-said}
 use Rattle.book.specs.WellCut.{WellCut, said-cut}
 use Rattle.book.specs.Claim.{Each, Tells, tells}

@@ -14,9 +14,9 @@ use Rattle.texts.specs.Text.{ascii, isWord, isPhone, ascii-take}
 use Rattle.phoneset.specs.Stress.{digits, isStressed, stress, bare}
 use Rattle.onsets.specs.Onsets.{onsets}
 use Rattle.syllabify.specs.Syllables.{marks, syllables, onFirst}
-use Rattle.utterance.specs.Append.{isSyllable, isSaid}
-use Rattle.wordlaws.specs.Pronounced.{lastStress, sung, said}
-use Rattle.wordlaws.specs.Fits.{isStress, digit}
+use Rattle.utterance_spec.specs.Append.{isSyllable, isSaid}
+use Rattle.pipeline_spec.specs.Pronounced.{lastStress, sung, said}
+use Rattle.pipeline_spec.specs.Fits.{isStress, digit}
 
 last-stress : (d : ℕ) (ps : List (List ℕ)) → isStress d ≡ true → isStress (lastStress d ps) ≡ true
 unfolding lastStress

@@ -89,7 +89,7 @@ fn tell_entry(phones: &[u8], index: &[u8], dat: &[u8], i: usize)
 pub fn check(phones: &[u8], index: &[u8], dat: &[u8]) -> Reason
     requires { ⌜ isPhoneTable (now phones) ≡ true ⌝ }
 {
-    match compiled::check_lexicon(phones, index, dat) {
+    match check_lexicon::check_lexicon(phones, index, dat) {
         Verdict::Yes => {
             console::write(b"lexicon: no entry is damaged, and words do not fall\n");
             Reason::Fit

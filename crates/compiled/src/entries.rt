@@ -5,7 +5,7 @@ ghost use mathlib.Core.Bool.{true};
 ghost use Prim.Native.Nat.{_+_, _*_, _<_, _^_};
 ghost use lib.ListN.{length};
 ghost use Rattle.data.specs.Sections.{isPhoneTable};
-ghost use Rattle.compiled.specs.Entries.{tagOf, wordOf, numbersOf, isWhole, isSpoken, entryAt};
+ghost use Rattle.compiled_spec.specs.Entries.{tagOf, wordOf, numbersOf, isWhole, isSpoken, entryAt};
 
 // Entry i: the bytes from its offset on.
 pub fn entry<'a>(index: &[u8], lex_data: &'a [u8], i: usize) -> &'a [u8]

@@ -2,9 +2,9 @@
 ghost use mathlib.Core.Path.{_≡_};
 ghost use Prim.Native.Nat.{_+_, _-_, _*_, _≤_};
 ghost use lib.ListN.{length};
-ghost use Rattle.compiled.specs.Entries.{count};
-ghost use Rattle.compiled.specs.Search.{search as searchOf, tagged as taggedOf, fromPlace, chosen};
-use crate::Chosen;
+ghost use Rattle.compiled_spec.specs.Entries.{count};
+ghost use Rattle.compiled_spec.specs.Search.{search as searchOf, tagged as taggedOf, fromPlace, chosen};
+use compiled_spec::Chosen;
 use crate::entries;
 
 // The first entry whose word is not smaller, if words don't fall.

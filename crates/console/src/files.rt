@@ -1,6 +1,4 @@
 // Files of a folder, read whole into a lent buffer, with a sentence where that fails; and arguments.
-ghost use mathlib.Core.Path.{_≡_};
-ghost use lib.ListN.{length};
 ghost use Rattle.io.specs.Counts.{Counts};
 use crate::words::write;
 use crate::words::write_number;

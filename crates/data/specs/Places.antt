@@ -7,19 +7,15 @@ use native.Mathlib.Omega.{arith}
 use mathlib.Core.Path.{_≡_, refl, sym, ap, _∙_}
 use mathlib.Core.Bool.{Bool, true, false, _&&_}
 use mathlib.Core.List.{List, [], _∷_, _++_, append-nil}
-use lib.Dec.{leb, ltb}
 use lib.ListN.{length, getD, take, drop, set, length-drop}
 use lib.Seq.{drop-cons, drop-drop, getD-drop, getD-take, take-add, take-suc-set, append-snoc}
-use borrow.Author.Tests.{lt-ltb, ltb-true, leb-true}
+use borrow.Author.Tests.{lt-ltb}
 use Rattle.texts.specs.Choice.{cases, both-true}
 use Rattle.texts.specs.Lists.{every}
 use Rattle.texts.specs.Text.{ascii, low}
 use Rattle.records.specs.Fields.{u32At}
+use Rattle.reader.specs.Reader.{fits, string-fits}
 use Rattle.data.specs.Sections.{goodString, goodStrings, strings, isPhoneTable, tablePhones, table-strings}
-
--- the string at a byte lies inside its section, and its length is at most 15
-unfoldable pub fits : List ℕ → ℕ → Bool
-fits s at = ltb (getD s at 0) (length s - at) && leb (getD s at 0) 15
 
 -- so do n strings from a byte on
 unfoldable pub allFit : ℕ → List ℕ → ℕ → Bool
@@ -43,18 +39,6 @@ textAt s at = take (getD s at 0) (drop (at + 1) s)
 -- 256 numbers, the places of a table's phones in front
 unfoldable pub Placed : List ℕ → List ℕ → Type 0
 Placed s ps = (length ps ≡ 256) × (take (u32At s 0) ps ≡ places (u32At s 0) s 4)
-
--- a string that fits
-pub record Fits (s : List ℕ) (at : ℕ) : Type 0 where
-  pub inside : at + (1 + getD s at 0) ≤ length s
-  pub short : getD s at 0 ≤ 15
-
-pub string-fits : (s : List ℕ) (at : ℕ) → fits s at ≡ true → Fits s at
-unfolding fits
-string-fits s at h =
-    let b = both-true (ltb (getD s at 0) (length s - at)) (leb (getD s at 0) 15) h in
-    let f = ltb-true (getD s at 0) (length s - at) (b .0) in
-    record { inside = omega arith; short = leb-true (getD s at 0) 15 (b .1) }
 
 -- one law for each turn of a loop over the strings from a byte on
 module _ (s : List ℕ) (at left : ℕ) (more : 0 < left) where

@@ -5,23 +5,11 @@ ghost use Prim.Native.Nat.{_≤_, _<_, _^_};
 ghost use lib.ListN.{length};
 ghost use Rattle.records.specs.Fields.{u32At};
 ghost use Rattle.data.specs.Sections.{isPhoneTable, isListed, isLexIndex, isLtsIndex, isLtsModel, isAswd};
-ghost use Rattle.data.specs.Places.{fits, textAt, Placed};
+ghost use Rattle.reader.specs.Reader.{fits};
+ghost use Rattle.data.specs.Places.{textAt, Placed};
 
-mod reader;
-
-pub use reader::string_from;
-
-// A number that a reader took, and where it then stands.
-pub enum Number {
-    Is(usize, usize),
-    Broken,
-}
-
-// Where the text of a string that a reader took starts, and where it ends: the reader then stands there.
-pub enum Text {
-    At(usize, usize),
-    Broken,
-}
+use reader::Number;
+use reader::Text;
 
 // The count at the front of lex.index.
 pub fn count(s: &[u8]) -> usize

@@ -7,7 +7,7 @@ pub fn run_check_lexicon(line: &[u8], regs: &[u8], room: &mut [u8]) -> bool {
     if !given.ok {
         return false;
     }
-    let a = compiled::check_lexicon(
+    let a = check_lexicon::check_lexicon(
         caseline::argument(room, given, 0),
         caseline::argument(room, given, 1),
         caseline::argument(room, given, 2),
@@ -17,7 +17,7 @@ pub fn run_check_lexicon(line: &[u8], regs: &[u8], room: &mut [u8]) -> bool {
 
 // new_store with its arguments read and its store loaded
 fn new_store_on(line: &[u8], regs: &[u8], room: &mut [u8], given: Given, store: &mut [u8]) -> bool {
-    let a = store::new_store(store);
+    let a = new_store::new_store(store);
     if !caseline::agrees(answers::told_done(a), line, 3) {
         return false;
     }
@@ -68,7 +68,7 @@ fn add_entries_on(
     store: &mut [u8],
     spare: &mut [u8],
 ) -> bool {
-    let a = addtext::add_entries(
+    let a = add_entries::add_entries(
         caseline::argument(room, given, 0),
         store,
         spare,

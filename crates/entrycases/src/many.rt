@@ -117,7 +117,7 @@ fn is_full(phones: &[u8], store: &mut [u8], filled: Filled) -> bool {
 // fill with its arguments read and its store loaded
 fn fill_on(line: &[u8], room: &[u8], given: Given, store: &mut [u8]) -> bool {
     let phones = caseline::argument(room, given, 0);
-    if answers::told_done(store::new_store(store)).refusal != 0 {
+    if answers::told_done(new_store::new_store(store)).refusal != 0 {
         return false;
     }
     let filled = add_words(phones, store);

@@ -9,7 +9,7 @@ ghost use Rattle.texts.specs.Lists.{every};
 ghost use Rattle.data.specs.Sections.{isPhoneTable};
 ghost use Rattle.cells.specs.Cells.{cellsOf};
 ghost use Rattle.lines.specs.Lines.{fields};
-ghost use Rattle.lexicon.specs.Adding.{mayAdd};
+ghost use Rattle.lexicon_spec.specs.Adding.{mayAdd};
 
 // Whether every field may be added as a phone.
 pub fn may_add_fields(table: &[u8], s: &[u8]) -> bool
@@ -22,7 +22,7 @@ pub fn may_add_fields(table: &[u8], s: &[u8]) -> bool
         if lines::is_empty(rest) {
             return true;
         }
-        if !lexicon::may_add(table, lines::field(rest)) {
+        if !adding::may_add(table, lines::field(rest)) {
             return false;
         }
         at = lines::field_end(s, at);

@@ -2,14 +2,4 @@
 mod fields;
 mod line;
 
-use answers::Refusal;
 pub use line::take_line;
-
-// What comes of a line.
-pub enum Outcome {
-    // blank or a comment
-    Skipped,
-    // an entry that was added
-    Taken,
-    Refused(Refusal),
-}

@@ -5,11 +5,11 @@ ghost use mathlib.Core.List.{[]};
 ghost use Prim.Native.Nat.{ℕ, _≤_, _<_};
 ghost use lib.ListN.{length, getD};
 ghost use Rattle.data.specs.Sections.{isPhoneTable};
-ghost use Rattle.store.specs.Store.{isSound};
-ghost use Rattle.store.specs.Adding.{added, isFull, kept};
+ghost use Rattle.store_spec.specs.Store.{isSound};
+ghost use Rattle.store_spec.specs.Adding.{added, isFull, kept};
 ghost use Rattle.lines.specs.Lines.{fields};
-ghost use Rattle.entryline.specs.Line.{readLine, onContent, lineEntry, judged, onOutcome, outcome, behindLine};
-use crate::Outcome;
+ghost use Rattle.addtext_spec.specs.Line.{readLine, onContent, lineEntry, judged, onOutcome, outcome, behindLine};
+use addtext_spec::Outcome;
 use crate::fields;
 use answers::Refusal;
 
@@ -21,9 +21,9 @@ fn add_cells(room: &mut [u8], store: &mut [u8], word: &[u8], tag: &[u8], phones:
 {
     let n = fields::count_fields(phones);
     fields::put_fields(room, phones);
-    lexicon::add_folded(
+    adding::add_folded(
         store,
-        lexicon::added_tag(tag),
+        adding::added_tag(tag),
         word,
         records::head(room, 16 * n),
     )

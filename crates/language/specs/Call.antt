@@ -1,7 +1,7 @@
 -- 01, sayable as a call: its refusals 1 and 3, and its answer.
 -- Assumes nothing.
 use Prim.Native.Nat.{ℕ}
-use mathlib.Core.Bool.{Bool, true, false, not, _&&_, _||_}
+use mathlib.Core.Bool.{Bool, false, not, _&&_, _||_}
 use mathlib.Core.List.{List, reverse}
 use Rattle.texts.specs.Choice.{if_then_else_, bit}
 use Rattle.texts.specs.Text.{isWord}

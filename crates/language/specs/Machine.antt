@@ -1,14 +1,14 @@
 -- 01, Sayable: a machine's steps, and the letters that it accepts.
 -- Assumes nothing.
-use Prim.Native.Nat.{ℕ, zero, suc, _+_, _-_, _*_, _%_, _/_, _≤_, _<_}
+use Prim.Native.Nat.{ℕ, suc, _+_, _-_, _*_, _%_, _/_, _≤_, _<_}
 use native.Mathlib.Numerals.{add-one}
 use native.Mathlib.Omega.{arith}
-use mathlib.Core.Path.{_≡_, refl, sym, ap, _∙_}
+use mathlib.Core.Path.{_≡_, sym, ap, _∙_}
 use mathlib.Core.Bool.{Bool, true, false}
 use mathlib.Core.List.{List, [], _∷_, _++_, map, reverse, reverse-append}
 use lib.Dec.{eqb}
 use lib.ListN.{length, getD, take, drop, length-map, length-drop, drop-of-length-le}
-use lib.Seq.{drop-cons, take-suc, getD-drop}
+use lib.Seq.{drop-cons, take-suc}
 use borrow.Author.Tests.{eq-eqb, ne-eqb}
 use Rattle.texts.specs.Choice.{if_then_else_}
 use Rattle.texts.specs.Lists.{some, getD-map}

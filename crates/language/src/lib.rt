@@ -1,6 +1,6 @@
 // Sayable (01, Sayable): whether a word looks like one that can be said, by two machines over its letters.
 ghost use mathlib.Core.Path.{_≡_};
-ghost use mathlib.Core.List.{map, reverse};
+ghost use mathlib.Core.List.{reverse};
 ghost use Prim.Native.Nat.{_≤_};
 ghost use lib.ListN.{length};
 ghost use Rattle.texts.specs.Text.{folded};

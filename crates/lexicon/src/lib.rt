@@ -1,11 +1,156 @@
-// The lexicon below its calls (01, Lookup): adding an entry, and finding a word.
-mod adding;
-mod looking;
+// Looking a word up (01, Lookup): runtime entries, then the addenda, then the compiled entries.
+ghost use mathlib.Core.Path.{_≡_};
+ghost use mathlib.Core.Bool.{true};
+ghost use mathlib.Core.List.{map, _++_};
+ghost use Prim.Native.Nat.{_*_, _/_, _≤_, _<_};
+ghost use lib.ListN.{length, getD, drop};
+ghost use Rattle.texts.specs.Text.{folded};
+ghost use Rattle.cells.specs.Cells.{phonesOf, cellsOf};
+ghost use Rattle.data.specs.Places.{Placed};
+ghost use Rattle.data.specs.Sections.{isPhoneTable};
+ghost use Rattle.addenda.specs.Addenda.{addenda, noAddendum};
+ghost use Rattle.store_spec.specs.Store.{isSound, isWanted, next as nextOf, used as usedOf, entries};
+ghost use Rattle.store_spec.specs.Adding.{seek as seekOf};
+ghost use Rattle.compiled_spec.specs.Lexicon.{isLexicon};
+ghost use Rattle.compiled_spec.specs.Entries.{isSpoken, phonesOf as spokenOf};
+ghost use Rattle.answers.specs.Told.{toldLooked};
+ghost use Rattle.answers.specs.declared.Source.the-variants.{Runtime, Addenda};
+ghost use Rattle.lexicon_spec.specs.Lookup.{found, spoken, find as findOf, fromCompiled, toldFinding, outFinding};
+use answers::Looked;
+use answers::Refusal;
+use answers::Source;
+use compiled_spec::Chosen;
 
-pub use adding::add_folded;
-pub use adding::added_tag;
-pub use adding::are_texts;
-pub use adding::first_or_any;
-pub use adding::may_add;
-pub use adding::may_add_all;
-pub use looking::find;
+// The slot of the first runtime entry that is wanted, 0 where there is none; room is for the folded word.
+fn runtime_in(room: &mut [u8], store: &[u8], word: &[u8], tag: u8) -> usize
+    requires { ⌜ length (now word) ≤ length (now room) ⌝ }
+    ensures { λ r. ⌜ (r ≡ nextOf (now (store .entry)) (seekOf (now (store .entry)) (isWanted true (map folded (now (word .entry))) tag) (usedOf (now (store .entry))) 0)) × (r < 65536) ⌝ }
+{
+    let n = word.len();
+    slots::put_folded(room, 0, word);
+    let p = store::seek(store, store::used(store), true, records::head(room, n), tag);
+    store::next(store, p)
+}
+
+fn runtime(store: &[u8], word: &[u8], tag: u8) -> usize
+    requires { ⌜ length (now word) ≤ 47 ⌝ }
+    ensures { λ r. ⌜ (r ≡ nextOf (now (store .entry)) (seekOf (now (store .entry)) (isWanted true (map folded (now (word .entry))) tag) (usedOf (now (store .entry))) 0)) × (r < 65536) ⌝ }
+{
+    let mut room = [0u8; 47];
+    runtime_in(&mut room, store, word, tag)
+}
+
+// The phones in cells as an answer.
+fn give_cells(list: &[u8], out: &mut [u8]) -> Looked
+    ensures { λ r. ⌜ toldLooked r ≡ toldFinding (found Runtime (phonesOf (now (list .entry)))) (now (out .entry)) ⌝ }
+    ensures { λ _. ⌜ now (out .exit) ≡ outFinding (found Runtime (phonesOf (now (list .entry)))) (now (out .entry)) ⌝ }
+{
+    let n = list.len() / 16;
+    if 96 < n {
+        return Looked::Refused(Refusal::Phones);
+    }
+    if out.len() < 16 * n {
+        return Looked::Refused(Refusal::Short);
+    }
+    cells::put_phones(out, 0, list);
+    Looked::Found(Source::Runtime, n)
+}
+
+// The phones of row n of the addenda as an answer.
+fn give_row(n: usize, out: &mut [u8]) -> Looked
+    requires { ⌜ n < 42 ⌝ }
+    ensures { λ r. ⌜ toldLooked r ≡ toldFinding (found Addenda (getD addenda n noAddendum .phones)) (now (out .entry)) ⌝ }
+    ensures { λ _. ⌜ now (out .exit) ≡ outFinding (found Addenda (getD addenda n noAddendum .phones)) (now (out .entry)) ⌝ }
+{
+    let count = addenda::count(n);
+    if out.len() < 16 * count {
+        return Looked::Refused(Refusal::Short);
+    }
+    addenda::put_phones(out, n);
+    Looked::Found(Source::Addenda, count)
+}
+
+// The phones of a compiled entry as cells at the front of out; places are those of the table's phones.
+fn put_spoken(phones: &[u8], places: &[u16], s: &[u8], out: &mut [u8])
+    requires { ⌜ Placed (now phones) (now places) ⌝ }
+    requires { ⌜ (isPhoneTable (now phones) ≡ true) × (isSpoken (now phones) (now s) ≡ true) × (16 * length (spokenOf (now phones) (now s)) ≤ length (now out)) ⌝ }
+    ensures { λ _. ⌜ now (out .exit) ≡ cellsOf (spokenOf (now (phones .entry)) (now (s .entry))) ++ drop (16 * length (spokenOf (now (phones .entry)) (now (s .entry)))) (now (out .entry)) ⌝ }
+{
+    let numbers = compiled::numbers(s);
+    let mut i = 0;
+    while i < numbers.len() {
+        let place = places[texts::wide(numbers[i])];
+        cells::put_cell(out, i, data::phone_at(phones, place));
+        i += 1;
+    }
+}
+
+// The phones of a whole compiled entry as an answer; damage if a number has no phone.
+fn give_spoken(phones: &[u8], places: &[u16], s: &[u8], out: &mut [u8]) -> Looked
+    requires { ⌜ Placed (now phones) (now places) ⌝ }
+    requires { ⌜ isPhoneTable (now phones) ≡ true ⌝ }
+    ensures { λ r. ⌜ toldLooked r ≡ toldFinding (spoken (now (phones .entry)) (now (s .entry))) (now (out .entry)) ⌝ }
+    ensures { λ _. ⌜ now (out .exit) ≡ outFinding (spoken (now (phones .entry)) (now (s .entry))) (now (out .entry)) ⌝ }
+{
+    if !compiled::is_spoken(phones, s) {
+        return Looked::Refused(Refusal::Damaged);
+    }
+    let n = compiled::numbers(s).len();
+    if 96 < n {
+        return Looked::Refused(Refusal::Phones);
+    }
+    if out.len() < 16 * n {
+        return Looked::Refused(Refusal::Short);
+    }
+    put_spoken(phones, places, s, out);
+    Looked::Found(Source::Compiled, n)
+}
+
+// The compiled answer.
+fn give_compiled(
+    phones: &[u8],
+    places: &[u16],
+    index: &[u8],
+    dat: &[u8],
+    word: &[u8],
+    tag: u8,
+    out: &mut [u8],
+) -> Looked
+    requires { ⌜ Placed (now phones) (now places) ⌝ }
+    requires { ⌜ isLexicon (now phones) (now index) ≡ true ⌝ }
+    ensures { λ r. ⌜ toldLooked r ≡ toldFinding (fromCompiled (now (phones .entry)) (now (index .entry)) (now (dat .entry)) (now (word .entry)) tag) (now (out .entry)) ⌝ }
+    ensures { λ _. ⌜ now (out .exit) ≡ outFinding (fromCompiled (now (phones .entry)) (now (index .entry)) (now (dat .entry)) (now (word .entry)) tag) (now (out .entry)) ⌝ }
+{
+    match compiled::choose(index, dat, word, tag) {
+        Chosen::Damaged => Looked::Refused(Refusal::Damaged),
+        Chosen::Missing => Looked::Nothing,
+        Chosen::Entry(i) => give_spoken(phones, places, compiled::entry(index, dat, i), out),
+    }
+}
+
+// The word in a sound store's entries, the addenda or the compiled entries.
+pub fn find(
+    phones: &[u8],
+    places: &[u16],
+    index: &[u8],
+    dat: &[u8],
+    store: &[u8],
+    word: &[u8],
+    tag: u8,
+    out: &mut [u8],
+) -> Looked
+    requires { ⌜ Placed (now phones) (now places) ⌝ }
+    requires { ⌜ (isLexicon (now phones) (now index) ≡ true) × (isSound (now store) ≡ true) × (length (now word) ≤ 47) ⌝ }
+    ensures { λ r. ⌜ toldLooked r ≡ toldFinding (findOf (entries (now (store .entry))) (now (phones .entry)) (now (index .entry)) (now (dat .entry)) (now (word .entry)) tag) (now (out .entry)) ⌝ }
+    ensures { λ _. ⌜ now (out .exit) ≡ outFinding (findOf (entries (now (store .entry))) (now (phones .entry)) (now (index .entry)) (now (dat .entry)) (now (word .entry)) tag) (now (out .entry)) ⌝ }
+{
+    let n = runtime(store, word, tag);
+    if n != 0 {
+        return give_cells(slots::phones(store::slot(store, n)), out);
+    }
+    let row = addenda::find(word, tag);
+    if row < 42 {
+        return give_row(row, out);
+    }
+    give_compiled(phones, places, index, dat, word, tag, out)
+}

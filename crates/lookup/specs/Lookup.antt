@@ -6,11 +6,11 @@ use mathlib.Core.Bool.{true, not, _&&_}
 use mathlib.Core.List.{List}
 use Rattle.texts.specs.Choice.{if_then_else_}
 use Rattle.texts.specs.Text.{isWord}
-use Rattle.store.specs.Store.{isSound, entries}
-use Rattle.compiled.specs.Call.{isLexicon}
+use Rattle.store_spec.specs.Store.{isSound, entries}
+use Rattle.compiled_spec.specs.Lexicon.{isLexicon}
 use Rattle.answers.specs.declared.Answer.{Answer}
 use Rattle.answers.specs.Told.{refused, written}
-use Rattle.lexicon.specs.Lookup.{Finding, wantedTag, find, toldFinding, withFinding, outFinding}
+use Rattle.lexicon_spec.specs.Lookup.{Finding, wantedTag, find, toldFinding, withFinding, outFinding}
 
 module _ (phones index dat store word tag : List ℕ) where
   -- 01's rule on the store's entries

@@ -34,7 +34,7 @@ pub fn lookup(
         dat,
         store,
         word,
-        lexicon::first_or_any(tag),
+        texts::first_or_any(tag),
         out,
     )
 }

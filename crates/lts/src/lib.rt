@@ -4,7 +4,6 @@ ghost use mathlib.Core.Bool.{true};
 ghost use Prim.Native.Nat.{_+_, _*_, _≤_, _<_};
 ghost use mathlib.Core.Option.{some};
 ghost use lib.ListN.{length, take};
-ghost use Rattle.texts.specs.Text.{isWord};
 ghost use Rattle.data.specs.Places.{Placed};
 ghost use Rattle.answers.specs.Told.{toldPredicted};
 ghost use Rattle.lts.specs.Letters.{padded as paddedWord, window as windowAt, spoken, letter, letters, Puts, isTrees};

@@ -7,8 +7,8 @@ use lib.Dec.{ltb}
 use lib.ListN.{length, drop}
 use Rattle.texts.specs.Choice.{if_then_else_}
 use Rattle.records.specs.Chain.{chain}
-use Rattle.utterance.specs.Tree.{follow, textAt}
-use Rattle.utterance.specs.Sheet.{at, used, isSound}
+use Rattle.utterance_spec.specs.Tree.{follow, textAt}
+use Rattle.utterance_spec.specs.Sheet.{at, used, isSound}
 use Rattle.answers.specs.declared.Answer.{Answer}
 use Rattle.answers.specs.Told.{refused, accepted, written}
 

@@ -13,8 +13,8 @@ use Rattle.texts.specs.Choice.{if_then_else_, cases}
 use Rattle.records.specs.Records.{recordAt, paste-more, paste-turn}
 use Rattle.records.specs.Chain.{chain, chain-turn, chain-stop, chain-end}
 use Rattle.items.specs.Item.{itemOf}
-use Rattle.utterance.specs.Tree.{follow, textAt}
-use Rattle.utterance.specs.Sheet.{at, used}
+use Rattle.utterance_spec.specs.Tree.{follow, textAt}
+use Rattle.utterance_spec.specs.Sheet.{at, used}
 use Rattle.phonestring.specs.PhoneString.{phones, led, spaced, string}
 
 -- a blank, unless item p is item 0, behind which the first phone stands

@@ -5,12 +5,11 @@ ghost use mathlib.Core.List.{map, _++_};
 ghost use Prim.Native.Nat.{_*_, _/_, _≤_};
 ghost use lib.Dec.{eqb};
 ghost use lib.ListN.{length, drop};
-ghost use Rattle.texts.specs.Choice.{if_then_else_};
 ghost use Rattle.cells.specs.Cells.{phonesOf, cellsOf};
 ghost use Rattle.phoneset.specs.Stress.{digits, bare as bareOf};
 ghost use Rattle.onsets.specs.Onsets.{onsets};
 ghost use Rattle.syllabify.specs.Syllables.{marks as marksOf};
-ghost use Rattle.wordlaws.specs.Cutting.{stressed as stressedOf, cutsOf};
+ghost use Rattle.pipeline_spec.specs.Cutting.{stressed as stressedOf, cutsOf};
 
 // A phone without its stress.
 fn bare_phone(phone: &[u8]) -> &[u8]

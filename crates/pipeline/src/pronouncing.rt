@@ -4,13 +4,13 @@ ghost use mathlib.Core.Bool.{true};
 ghost use Prim.Native.Nat.{_≤_};
 ghost use lib.ListN.{length};
 ghost use Rattle.data.specs.Places.{Placed};
-ghost use Rattle.store.specs.Store.{isSound, entries};
-ghost use Rattle.compiled.specs.Call.{isLexicon};
+ghost use Rattle.store_spec.specs.Store.{isSound, entries};
+ghost use Rattle.compiled_spec.specs.Lexicon.{isLexicon};
 ghost use Rattle.lts.specs.Letters.{isTrees, letters};
 ghost use Rattle.answers.specs.Told.{toldPredicted};
-ghost use Rattle.wordlaws.specs.Pronounced.{pronounced};
-ghost use Rattle.wordlaws.specs.Cutting.{toldSpoken, cellsSpoken};
-ghost use Rattle.wordlaws.specs.ChosenSource.{toldBehind, roomBehind};
+ghost use Rattle.pipeline_spec.specs.Pronounced.{pronounced};
+ghost use Rattle.pipeline_spec.specs.Cutting.{toldSpoken, cellsSpoken};
+ghost use Rattle.pipeline_spec.specs.ChosenSource.{toldBehind, roomBehind};
 use answers::Looked;
 use answers::Predicted;
 
@@ -66,7 +66,7 @@ pub fn pronounce(
         dat,
         store,
         word,
-        lexicon::first_or_any(tag),
+        texts::first_or_any(tag),
         room,
     );
     match looked {

@@ -8,12 +8,12 @@ ghost use Rattle.phoneset.specs.Stress.{digits, bare, stress};
 ghost use Rattle.syllabify.specs.Call.{syllabify, syllabified};
 ghost use Rattle.lts.specs.Call.{predict, predicted};
 ghost use Rattle.language.specs.Call.{isSayable};
-ghost use Rattle.store.specs.Store.{newStore, newBytes};
-ghost use Rattle.compiled.specs.Call.{checkLexicon};
+ghost use Rattle.new_store.specs.NewStore.{newStore, newBytes};
+ghost use Rattle.check_lexicon.specs.CheckLexicon.{checkLexicon};
 ghost use Rattle.lookup.specs.Lookup.{lookup, lookedUp};
 ghost use Rattle.add_entry.specs.AddEntry.{addEntry, storeAfter};
-ghost use Rattle.addtext.specs.Call.{addEntries, storeAfter as storeBehind, spareAfter as spareBehind};
-ghost use Rattle.utterance.specs.Sheet.{newSheet, newBytes as newSheetBytes};
+ghost use Rattle.add_entries.specs.AddEntries.{addEntries, storeAfter as storeBehind, spareAfter as spareBehind};
+ghost use Rattle.new_sheet.specs.NewSheet.{newSheet, newBytes as newSheetBytes};
 ghost use Rattle.phonestring.specs.PhoneString.{phoneString, stringAfter};
 ghost use Rattle.say_word.specs.SayWord.{sayWord, sheetAfter};
 use answers::Answer;
@@ -23,7 +23,7 @@ use answers::Answer;
 pub extern "C" fn pronouncer_check_lexicon(phones: &[u8], index: &[u8], dat: &[u8]) -> Answer
     ensures { λ r. ⌜ r ≡ checkLexicon (now (phones .entry)) (now (index .entry)) (now (dat .entry)) ⌝ }
 {
-    answers::told_verdict(compiled::check_lexicon(phones, index, dat))
+    answers::told_verdict(check_lexicon::check_lexicon(phones, index, dat))
 }
 
 // lex.phones, lex.index, lex.data, a store, a word, a tag, an output
@@ -81,7 +81,7 @@ pub extern "C" fn pronouncer_new_store(store: &mut [u8]) -> Answer
     ensures { λ r. ⌜ r ≡ newStore (now (store .entry)) ⌝ }
     ensures { λ _. ⌜ now (store .exit) ≡ newBytes (now (store .entry)) ⌝ }
 {
-    answers::told_done(store::new_store(store))
+    answers::told_done(new_store::new_store(store))
 }
 
 // lex.phones, a store, a word, a tag, a phone list
@@ -111,7 +111,7 @@ pub extern "C" fn pronouncer_add_entries(
     ensures { λ _. ⌜ now (store .exit) ≡ storeBehind (now (table .entry)) (now (store .entry)) (now (spare .entry)) (now (text .entry)) ⌝ }
     ensures { λ _. ⌜ now (spare .exit) ≡ spareBehind (now (table .entry)) (now (store .entry)) (now (spare .entry)) (now (text .entry)) ⌝ }
 {
-    answers::told_lines(addtext::add_entries(table, store, spare, text))
+    answers::told_lines(add_entries::add_entries(table, store, spare, text))
 }
 
 // a sheet
@@ -120,7 +120,7 @@ pub extern "C" fn pronouncer_new_sheet(sheet: &mut [u8]) -> Answer
     ensures { λ r. ⌜ r ≡ newSheet (now (sheet .entry)) ⌝ }
     ensures { λ _. ⌜ now (sheet .exit) ≡ newSheetBytes (now (sheet .entry)) ⌝ }
 {
-    answers::told_done(utterance::new_sheet(sheet))
+    answers::told_done(new_sheet::new_sheet(sheet))
 }
 
 // a sheet, an output

@@ -15,17 +15,17 @@ use Rattle.records.specs.Records.{records}
 use Rattle.cells.specs.Cells.{cellsOf, text, shortCell, asciiPhones}
 use Rattle.phoneset.specs.Phones.{isKnown}
 use Rattle.data.specs.Sections.{isPhoneTable, isListed}
-use Rattle.slots.specs.Slot.{Entry}
-use Rattle.store.specs.Store.{slots, used, entryAt, entries, sameKey}
-use Rattle.store.specs.Adding.{without, adding, isFull}
-use Rattle.store.specs.Sound.{Sound, is-sound, entries-are}
-use Rattle.compiled.specs.Call.{isLexicon}
+use Rattle.slots_spec.specs.Slot.{Entry}
+use Rattle.store_spec.specs.Store.{slots, used, entryAt, entries, sameKey}
+use Rattle.store_spec.specs.Adding.{without, adding, isFull}
+use Rattle.store_spec.specs.Sound.{Sound, is-sound, entries-are}
+use Rattle.compiled_spec.specs.Lexicon.{isLexicon}
 use Rattle.answers.specs.declared.Source.{Source}
 use Rattle.answers.specs.Told.{accepted, sourceNumber}
-use Rattle.lexicon.specs.Adding.{mayAdd, mayAddCell, mayAddAll, newEntry}
+use Rattle.lexicon_spec.specs.Adding.{mayAdd, mayAddCell, mayAddAll, newEntry}
 use Rattle.add_entry.specs.AddEntry.{addEntry, storeAfter}
 use Rattle.add_entry.specs.Accepted.{add-law}
-use Rattle.lexicon.specs.Lookup.{Finding, found, find, wantedTag, toldFinding, outFinding, found-fits}
+use Rattle.lexicon_spec.specs.Lookup.{Finding, found, find, wantedTag, toldFinding, outFinding, found-fits}
 use Rattle.lookup.specs.Lookup.{lookup, lookedUp, lookup-on-entries}
 
 -- an entry to be added: a word, a tag, its phones as cells

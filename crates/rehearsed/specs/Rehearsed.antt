@@ -7,7 +7,6 @@ use mathlib.Core.Path.{_≡_, refl, ap, _∙_}
 use mathlib.Core.Bool.{true}
 use mathlib.Core.List.{List, [], _∷_, _++_, map}
 use lib.ListN.{length, drop}
-use Rattle.texts.specs.Choice.{if_then_else_}
 use mathlib.Core.Option.{some}
 use borrow.Author.Tests.{le-ltb}
 use Rattle.texts.specs.Lists.{every, some as any, place, first}
@@ -24,13 +23,14 @@ use Rattle.lts.specs.Letters.{isTrees, letters, upTo, padded}
 use Rattle.lts.specs.Call.{predict, predicted}
 use Rattle.addenda.specs.Addenda.{addenda}
 use Rattle.addenda.specs.Find.{isMeant}
-use Rattle.slots.specs.Slot.{Entry}
-use Rattle.store.specs.Store.{slots, entries, isStoreLength, isWanted, sameKey, newStore, newBytes}
-use Rattle.store.specs.Adding.{adding, without, entryFor}
-use Rattle.store.specs.Fresh.{fresh, length-fresh, fresh-sound, fresh-entries}
-use Rattle.compiled.specs.Call.{isLexicon, lexicon-table}
-use Rattle.lexicon.specs.Adding.{newEntry, addedTag}
-use Rattle.lexicon.specs.Lookup.{found, find, wantedTag}
+use Rattle.slots_spec.specs.Slot.{Entry}
+use Rattle.store_spec.specs.Store.{slots, entries, isStoreLength, isWanted, sameKey}
+use Rattle.new_store.specs.NewStore.{newStore, newBytes}
+use Rattle.store_spec.specs.Adding.{adding, without, entryFor}
+use Rattle.new_store.specs.Fresh.{fresh, length-fresh, fresh-sound, fresh-entries}
+use Rattle.compiled_spec.specs.Lexicon.{isLexicon, lexicon-table}
+use Rattle.lexicon_spec.specs.Adding.{newEntry, addedTag}
+use Rattle.lexicon_spec.specs.Lookup.{found, find, wantedTag}
 use Rattle.lookup.specs.Lookup.{lookup, lookedUp}
 use Rattle.answers.specs.declared.Source.{Source}
 use Rattle.answers.specs.declared.Source.the-variants.{Runtime, Addenda}

@@ -13,7 +13,7 @@ fn prepare(phones: &[u8], store: &mut [u8], spare: &mut [u8], k: usize) -> bool 
     if k == 0 {
         return true;
     }
-    telling::tell_lines(addtext::add_entries(phones, store, spare, &text[..n]))
+    telling::tell_lines(add_entries::add_entries(phones, store, spare, &text[..n]))
 }
 
 // The words of a text, parted by blanks.

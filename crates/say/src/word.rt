@@ -18,7 +18,7 @@ pub fn tell(
     let tag = records::tail(records::tail(field, slash), 1);
     console::write(field);
     if telling::tell_looked(lookup::lookup(phones, index, dat, store, word, tag, &mut room)) {
-        utterance::new_sheet(sheet);
+        new_sheet::new_sheet(sheet);
         let said = say_word::say_word(
             phones,
             index,

@@ -6,13 +6,13 @@ use mathlib.Core.List.{List}
 use Rattle.texts.specs.Choice.{if_then_else_}
 use Rattle.texts.specs.Text.{isWord}
 use Rattle.lts.specs.Letters.{isTrees}
-use Rattle.store.specs.Store.{entries, isSound}
-use Rattle.compiled.specs.Call.{isLexicon}
-use Rattle.utterance.specs.Sheet.{isSound as isSheet}
+use Rattle.store_spec.specs.Store.{entries, isSound}
+use Rattle.compiled_spec.specs.Lexicon.{isLexicon}
+use Rattle.utterance_spec.specs.Sheet.{isSound as isSheet}
 use Rattle.answers.specs.declared.Answer.{Answer}
 use Rattle.answers.specs.Told.{refused, written}
-use Rattle.wordlaws.specs.Pronounced.{Sections, pronounced}
-use Rattle.wordlaws.specs.Placing.{onSpoken, withSpoken}
+use Rattle.pipeline_spec.specs.Pronounced.{Sections, pronounced}
+use Rattle.pipeline_spec.specs.Placing.{onSpoken, withSpoken}
 
 module _ (c : Sections) (store sheet word tag : List ℕ) where
   unfoldable pub sayWord : Answer

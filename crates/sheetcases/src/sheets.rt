@@ -4,7 +4,7 @@ use caseline::Given;
 
 // new_sheet with its arguments read and its sheet loaded
 fn new_sheet_on(line: &[u8], regs: &[u8], room: &mut [u8], given: Given, sheet: &mut [u8]) -> bool {
-    let a = utterance::new_sheet(sheet);
+    let a = new_sheet::new_sheet(sheet);
     if !caseline::agrees(answers::told_done(a), line, 3) {
         return false;
     }

@@ -7,13 +7,10 @@ ghost use lib.ListN.{length};
 ghost use Rattle.texts.specs.Lists.{some};
 ghost use Rattle.records.specs.Records.{recordAt};
 ghost use Rattle.records.specs.Chain.{chain, endOf};
-ghost use Rattle.slots.specs.Slot.{entryOf};
-ghost use Rattle.answers.specs.Told.{toldDone};
-ghost use Rattle.store.specs.Marks.{markAt};
-ghost use Rattle.store.specs.Store.{next as nextOf, last, used as usedOf, entryAt, entries, isStoreLength, isWanted, sameKey, keysDiffer, walks as walksOf, isSound, newStore, newBytes};
+ghost use Rattle.slots_spec.specs.Slot.{entryOf};
+ghost use Rattle.store_spec.specs.Marks.{markAt};
+ghost use Rattle.store_spec.specs.Store.{next as nextOf, used as usedOf, entryAt, isStoreLength, isWanted, sameKey, keysDiffer, walks as walksOf, isSound};
 use crate::marks;
-use answers::Done;
-use answers::Refusal;
 
 // The number of the slot behind slot n; behind slot 0 stands the first.
 pub fn next(store: &[u8], n: usize) -> usize
@@ -39,7 +36,7 @@ pub fn slot(store: &[u8], n: usize) -> &[u8]
 }
 
 // Whether a store may have this length.
-fn is_store_length(n: usize) -> bool
+pub fn is_store_length(n: usize) -> bool
     ensures { λ r. ⌜ r ≡ isStoreLength n ⌝ }
 {
     if n < 512 {
@@ -191,15 +188,4 @@ pub fn is_sound(store: &[u8]) -> bool
         return false;
     }
     keys_differ(store, n)
-}
-
-pub fn new_store(store: &mut [u8]) -> Done
-    ensures { λ r. ⌜ toldDone r ≡ newStore (now (store .entry)) ⌝ }
-    ensures { λ _. ⌜ now (store .exit) ≡ newBytes (now (store .entry)) ⌝ }
-{
-    if !is_store_length(store.len()) {
-        return Done::Refused(Refusal::Unsound);
-    }
-    records::clear(store, 0, 512);
-    Done::Accepted
 }

@@ -7,7 +7,7 @@ use libc::STDIN_FILENO;
 pub fn begin(store: &mut [u8], text: &mut [u8], k: usize) -> Loaded
     ensures { λ r. ⌜ Counts (r .count) (now (text .exit)) ⌝ }
 {
-    store::new_store(store);
+    new_store::new_store(store);
     if k == 0 {
         return Loaded {
             count: 0,

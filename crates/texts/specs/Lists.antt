@@ -4,11 +4,11 @@ use Prim.Native.Nat.{ℕ, zero, suc, _+_, _≤_, _<_}
 use native.Mathlib.Numerals.{add-one}
 use native.Mathlib.Nat.{not-suc-le-zero, le-of-suc-le-suc}
 use native.Mathlib.Omega.{arith}
-use mathlib.Core.Path.{_≡_, refl, sym, ap, _∙_}
+use mathlib.Core.Path.{_≡_, refl, ap}
 use mathlib.Core.Bool.{Bool, true, false, _&&_, _||_}
 use mathlib.Core.List.{List, [], _∷_, map}
 use mathlib.Core.Option.{Option, none as nothing, some as just}
-use lib.ListN.{length, getD, take, drop, drop-of-length-le}
+use lib.ListN.{length, getD, drop, drop-of-length-le}
 use lib.Seq.{drop-cons}
 use Rattle.texts.specs.Choice.{if_then_else_, both-true, cases}
 
@@ -131,3 +131,9 @@ unfolding from
 getD-from k zero i d h = absurd (not-suc-le-zero h)
 getD-from k (suc n) zero d h = omega arith
 getD-from k (suc n) (suc i) d h = let e = getD-from (suc k) n i d (le-of-suc-le-suc h) in omega arith
+
+-- inside a list it does not matter what stands past its end
+pub getD-in : (l : List ℕ) (k c d : ℕ) → k < length l → getD l k c ≡ getD l k d
+getD-in [] k c d h = absurd (not-suc-le-zero h)
+getD-in (x ∷ xs) zero c d h = refl
+getD-in (x ∷ xs) (suc k) c d h = getD-in xs k c d (le-of-suc-le-suc h)

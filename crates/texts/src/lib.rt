@@ -2,6 +2,7 @@
 ghost use mathlib.Core.Path.{_≡_};
 ghost use mathlib.Core.Bool.{_&&_};
 ghost use Prim.Native.Nat.{_<_};
+ghost use lib.ListN.{getD};
 ghost use Rattle.texts.specs.Lists.{place};
 ghost use Rattle.texts.specs.Text.{folded, blank, is, same as equal, smaller as before, ascii, isWord, agree as agreeOf};
 ghost use Rattle.texts.specs.Largest.{larger as largerOf, largest as largestOf};
@@ -140,6 +141,13 @@ pub fn is_word(s: &[u8]) -> bool
         return false;
     }
     is_ascii(s)
+}
+
+// The first byte of a tag, "0" where there is none.
+pub fn first_or_any(tag: &[u8]) -> u8
+    ensures { λ r. ⌜ r ≡ getD (now (tag .entry)) 0 48 ⌝ }
+{
+    if tag.len() == 0 { 48 } else { tag[0] }
 }
 
 // Whether one tag is another; or, where "0" is any tag, one of them is "0".

@@ -3,7 +3,7 @@ ghost use mathlib.Core.Path.{_≡_};
 ghost use Prim.Native.Nat.{_<_};
 ghost use Rattle.records.specs.Fields.{u16At};
 ghost use Rattle.records.specs.Records.{recordAt};
-ghost use Rattle.utterance.specs.Sheet.{at, items, used as usedOf};
+ghost use Rattle.utterance_spec.specs.Sheet.{at, items, used as usedOf};
 
 // The bytes of item n.
 pub fn item(sheet: &[u8], n: u16) -> &[u8]

@@ -15,5 +15,5 @@ pub use fields::parent;
 pub use fields::prev;
 pub use fields::text;
 pub use fields::used;
+pub use sound::is_sheet_length;
 pub use sound::is_sound;
-pub use sound::new_sheet;

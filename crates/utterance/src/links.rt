@@ -2,7 +2,7 @@
 // item is inside the sheet; a neighbour may be past its end, where fields read as zero.
 ghost use mathlib.Core.Path.{_≡_};
 ghost use Prim.Native.Nat.{_<_};
-ghost use Rattle.utterance.specs.Sheet.{at, items, afterSyllable, afterPhone, beyond as beyondOf, after as afterOf, isParent, isSibling, isFull};
+ghost use Rattle.utterance_spec.specs.Sheet.{at, items, afterSyllable, afterPhone, beyond as beyondOf, after as afterOf, isParent, isSibling, isFull};
 use crate::fields;
 use crate::inside;
 

@@ -2,8 +2,8 @@
 // phones are chained.
 ghost use mathlib.Core.Path.{_≡_};
 ghost use Prim.Native.Nat.{_<_};
-ghost use Rattle.utterance.specs.Sheet.{at, used as usedOf, items, isPlaced};
-ghost use Rattle.utterance.specs.Turns.{isTied, lastPhone, isLast, isMet, isOrdered};
+ghost use Rattle.utterance_spec.specs.Sheet.{at, used as usedOf, items, isPlaced};
+ghost use Rattle.utterance_spec.specs.Turns.{isTied, lastPhone, isLast, isMet, isOrdered};
 use crate::inside::follow;
 use crate::inside::item;
 use crate::inside::kind;

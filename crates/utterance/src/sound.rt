@@ -1,16 +1,13 @@
-// Whether a sheet is sound, and a new sheet.
+// Whether a sheet is sound.
 ghost use mathlib.Core.Path.{_≡_};
-ghost use Rattle.answers.specs.Told.{toldDone};
-ghost use Rattle.utterance.specs.Sheet.{isSheetLength, isSound, newSheet, newBytes};
+ghost use Rattle.utterance_spec.specs.Sheet.{isSheetLength, isSound};
 use crate::fields::item;
 use crate::fields::used;
 use crate::links::is_parent;
 use crate::order::is_ordered;
-use answers::Done;
-use answers::Refusal;
 
 // Whether a sheet may have this length.
-fn is_sheet_length(n: usize) -> bool
+pub fn is_sheet_length(n: usize) -> bool
     ensures { λ r. ⌜ r ≡ isSheetLength n ⌝ }
 {
     if n < 64 {
@@ -33,15 +30,4 @@ pub fn is_sound(sheet: &[u8]) -> bool
         return false;
     }
     texts::both(is_parent(sheet, 0), is_ordered(sheet))
-}
-
-pub fn new_sheet(sheet: &mut [u8]) -> Done
-    ensures { λ r. ⌜ toldDone r ≡ newSheet (now (sheet .entry)) ⌝ }
-    ensures { λ _. ⌜ now (sheet .exit) ≡ newBytes (now (sheet .entry)) ⌝ }
-{
-    if !is_sheet_length(sheet.len()) {
-        return Done::Refused(Refusal::Unsound);
-    }
-    records::clear(sheet, 0, 64);
-    Done::Accepted
 }

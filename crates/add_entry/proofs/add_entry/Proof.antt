@@ -1,8 +1,8 @@
 -- `add_entry` meets its contract: each return is decided by the first test of the definition that fails. Assumes nothing.
-use Rattle.lexicon.specs.Adding.{mayAddAll, newEntry}
+use Rattle.lexicon_spec.specs.Adding.{mayAddAll, newEntry}
 use Rattle.add_entry.specs.AddEntry.{addEntry, storeAfter}
-use Rattle.store.specs.Adding.{entryFor, isFull, kept}
-use Rattle.store.specs.Store.{isSound}
+use Rattle.store_spec.specs.Adding.{entryFor, isFull, kept}
+use Rattle.store_spec.specs.Store.{isSound}
 use Rattle.data.specs.Sections.{isPhoneTable}
 use Rattle.cells.specs.Cells.{asciiPhones}
 use Rattle.texts.specs.Text.{folded, isWord, word-short}

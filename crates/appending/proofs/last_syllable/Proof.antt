@@ -6,9 +6,9 @@ use mathlib.Core.Path.{_≡_, refl, sym, ap, _∙_}
 use lib.ListN.{length, drop}
 use Rattle.records.specs.Chain.{endOf}
 use Rattle.cells.specs.Cells.{phonesOf, length-phonesOf}
-use Rattle.utterance.specs.Tree.{syllablesAt}
-use Rattle.utterance.specs.Append.{sizeIn, numbered}
-use Rattle.appending.specs.Cuts.{grouped}
+use Rattle.utterance_spec.specs.Tree.{syllablesAt}
+use Rattle.utterance_spec.specs.Append.{sizeIn, numbered}
+use Rattle.utterance_spec.specs.Cuts.{grouped}
 use Rattle.appending.specs.Numbers.{Step, step, last-turn, grouped-end}
 use Rattle.appending.proofs.last_syllable.Tie as tie
 

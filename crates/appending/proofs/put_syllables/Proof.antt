@@ -5,8 +5,8 @@ use native.Mathlib.Omega.{arith}
 use mathlib.Core.Path.{_≡_, refl, sym, _∙_}
 use lib.ListN.{length, drop}
 use Rattle.cells.specs.Cells.{phonesOf, length-phonesOf}
-use Rattle.utterance.specs.Append.{sizeIn, putItems}
-use Rattle.appending.specs.Cuts.{grouped}
+use Rattle.utterance_spec.specs.Append.{sizeIn, putItems}
+use Rattle.utterance_spec.specs.Cuts.{grouped}
 use Rattle.appending.specs.Numbers.{Step, step}
 use Rattle.appending.specs.Putting.{syllablesFrom, syllables-turn, syllables-end}
 use Rattle.appending.proofs.put_syllables.Tie as tie

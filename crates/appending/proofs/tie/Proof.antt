@@ -3,7 +3,7 @@ use borrow.Author.Needs.{needs}
 use Rattle.appending.proofs.tie.Statement.{statement}
 use native.Mathlib.Omega.{arith}
 use mathlib.Core.Path.{_∙_}
-use Rattle.utterance.specs.Append.{tied}
+use Rattle.utterance_spec.specs.Append.{tied}
 use Rattle.appending.proofs.tie.Tie as tie
 
 mul-put-u16 : tie.Need-mul-put-u16

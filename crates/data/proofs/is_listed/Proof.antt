@@ -8,8 +8,8 @@ use Rattle.texts.specs.Choice.{never}
 use Rattle.texts.specs.Text.{same}
 use Rattle.texts.specs.Lists.{some}
 use Rattle.data.specs.Sections.{strings, tablePhones, isListed, listed-here, listed-behind, listed-end}
-use Rattle.data.specs.Places.{fits, allFit, table-fit, first-fits, fit-turn}
-use Rattle.data.specs.Reader.{StringTaken, string-taken, string-broken}
+use Rattle.data.specs.Places.{allFit, table-fit, first-fits, fit-turn}
+use Rattle.reader.specs.Reader.{StringTaken, string-taken, string-broken, fits}
 use borrow.Author.Needs.{needs}
 use Rattle.data.proofs.is_listed.Statement.{statement}
 use Rattle.data.proofs.is_listed.Tie as tie

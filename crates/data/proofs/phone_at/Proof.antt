@@ -4,8 +4,8 @@ use native.Mathlib.Omega.{arith}
 use mathlib.Core.Path.{_≡_}
 use lib.ListN.{getD}
 use Rattle.texts.specs.Choice.{never}
-use Rattle.data.specs.Places.{fits, textAt}
-use Rattle.data.specs.Reader.{StringTaken, string-taken, string-broken}
+use Rattle.data.specs.Places.{textAt}
+use Rattle.reader.specs.Reader.{StringTaken, string-taken, string-broken, fits}
 use borrow.Author.Needs.{needs}
 use Rattle.data.proofs.phone_at.Statement.{statement}
 use Rattle.data.proofs.phone_at.Tie as tie

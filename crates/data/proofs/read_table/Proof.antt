@@ -10,8 +10,8 @@ use Rattle.records.specs.Fields.{u32At}
 use Rattle.texts.specs.Choice.{never}
 use Rattle.texts.specs.Text.{ascii}
 use Rattle.data.specs.Sections.{isPhoneTable}
-use Rattle.data.specs.Places.{allFit, endOf, places as placesOf, Placed, string-fits, fit-stop, fit-turn, end-turn, fit-end, good-fit, places-turn, places-end}
-use Rattle.data.specs.Reader.{number-taken, number-broken, string-taken, string-broken}
+use Rattle.data.specs.Places.{allFit, endOf, places as placesOf, Placed, fit-stop, fit-turn, end-turn, fit-end, good-fit, places-turn, places-end}
+use Rattle.reader.specs.Reader.{number-taken, number-broken, string-taken, string-broken, string-fits}
 use borrow.Author.Needs.{needs}
 use Rattle.data.proofs.read_table.Statement.{statement}
 use Rattle.data.proofs.read_table.Tie as tie

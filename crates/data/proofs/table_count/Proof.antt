@@ -1,7 +1,7 @@
 -- `data::table_count` meets its contract: a table has room for its count, so the reader takes it. Assumes nothing.
 use native.Mathlib.Omega.{arith}
 use Rattle.data.specs.Sections.{table-count}
-use Rattle.data.specs.Reader.{number-taken, number-broken}
+use Rattle.reader.specs.Reader.{number-taken, number-broken}
 use borrow.Author.Needs.{needs}
 use Rattle.data.proofs.table_count.Statement.{statement}
 use Rattle.data.proofs.table_count.Tie as tie

@@ -1,8 +1,8 @@
 -- `lookup` meets its contract: each return is decided by the first test of the definition that fails. Assumes nothing.
-use Rattle.lexicon.specs.Lookup.{wantedTag}
+use Rattle.lexicon_spec.specs.Lookup.{wantedTag}
 use Rattle.lookup.specs.Lookup.{lookup, lookedUp}
-use Rattle.compiled.specs.Call.{isLexicon}
-use Rattle.store.specs.Store.{isSound}
+use Rattle.compiled_spec.specs.Lexicon.{isLexicon}
+use Rattle.store_spec.specs.Store.{isSound}
 use Rattle.texts.specs.Text.{isWord, word-short}
 use Rattle.texts.specs.Choice.{both-true}
 use borrow.Author.Tests.{not-true, not-false}

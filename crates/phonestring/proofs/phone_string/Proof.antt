@@ -6,7 +6,7 @@ use native.Mathlib.Omega.{arith}
 use mathlib.Core.Path.{_≡_, sym, _∙_}
 use mathlib.Core.Bool.{true, false}
 use lib.ListN.{length}
-use Rattle.utterance.specs.Sheet.{isSound}
+use Rattle.utterance_spec.specs.Sheet.{isSound}
 use Rattle.phonestring.specs.PhoneString.{string, phoneString, stringAfter}
 use Rattle.phonestring.proofs.phone_string.Tie as tie
 

@@ -6,10 +6,10 @@ use mathlib.Core.Bool.{_&&_}
 use borrow.Author.Tests.{not-true, not-false}
 use Rattle.texts.specs.Choice.{both-true}
 use Rattle.texts.specs.Text.{isWord, word-short}
-use Rattle.compiled.specs.Call.{isLexicon}
+use Rattle.compiled_spec.specs.Lexicon.{isLexicon}
 use Rattle.lts.specs.Letters.{isTrees}
-use Rattle.store.specs.Store.{isSound}
-use Rattle.utterance.specs.Sheet.{isSound as isSheet}
+use Rattle.store_spec.specs.Store.{isSound}
+use Rattle.utterance_spec.specs.Sheet.{isSound as isSheet}
 use Rattle.say_word.specs.SayWord.{sayWord, sheetAfter}
 use Rattle.say_word.proofs.say_word.Tie as tie
 

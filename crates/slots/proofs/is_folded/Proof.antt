@@ -1,5 +1,5 @@
 -- `slots::is_folded` meets its contract: the bytes passed are folded, so those left decide. Assumes nothing.
-use Rattle.slots.specs.Slot.{isFolded, isSmall}
+use Rattle.slots_spec.specs.Slot.{isFolded, isSmall}
 use Rattle.texts.specs.Text.{folded}
 use Rattle.texts.specs.Lists.{every, every-turn, every-stop, every-end}
 use borrow.Author.Tests.{eq-eqb, ne-eqb}

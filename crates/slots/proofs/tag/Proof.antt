@@ -1,5 +1,5 @@
 -- `slots::tag` meets its contract: byte 2. Assumes nothing.
-use Rattle.slots.specs.Slot.{entryOf}
+use Rattle.slots_spec.specs.Slot.{entryOf}
 use borrow.Author.Needs.{needs}
 use Rattle.slots.proofs.tag.Statement.{statement}
 use Rattle.slots.proofs.tag.Tie as tie

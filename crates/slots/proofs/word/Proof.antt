@@ -1,5 +1,5 @@
 -- `slots::word` meets its contract: as many bytes from 4 on as byte 3 tells. Assumes nothing.
-use Rattle.slots.specs.Slot.{entryOf}
+use Rattle.slots_spec.specs.Slot.{entryOf}
 use mathlib.Core.Path.{_∙_}
 use borrow.Author.Needs.{needs}
 use Rattle.slots.proofs.word.Statement.{statement}

@@ -1,6 +1,6 @@
 -- `slots::write` meets its contract: each step adds the next bytes to the front that is written, up to all 512. Assumes nothing.
 use Rattle.slots.proofs.Front.{slot-written}
-use Rattle.slots.specs.Slot.{slot}
+use Rattle.slots_spec.specs.Slot.{slot}
 use Rattle.cells.specs.Cells.{phonesOf, cellsOf, length-phonesOf, length-cellsOf, phone-fits}
 use Rattle.texts.specs.Text.{folded}
 use lib.ListN.{length, length-set, length-map}

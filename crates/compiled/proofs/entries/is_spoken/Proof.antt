@@ -1,5 +1,5 @@
 -- `entries::is_spoken` meets its contract: the numbers passed have phones, so the numbers left decide. Assumes nothing.
-use Rattle.compiled.specs.Entries.{isSpoken}
+use Rattle.compiled_spec.specs.Entries.{isSpoken}
 use Rattle.texts.specs.Lists.{every, every-turn, every-stop, every-end}
 use borrow.Author.Tests.{lt-ltb, le-ltb}
 use lib.ListN.{length, drop, getD}

@@ -1,5 +1,5 @@
 -- `entries::numbers` meets its contract: the bytes behind the phone count, cut to it. Assumes nothing.
-use Rattle.compiled.specs.Entries.{numbersOf}
+use Rattle.compiled_spec.specs.Entries.{numbersOf}
 use mathlib.Core.Path.{_∙_}
 use borrow.Author.Needs.{needs}
 use Rattle.compiled.proofs.entries.numbers.Statement.{statement}

@@ -1,5 +1,5 @@
 -- `entries::tag` meets its contract: the tag is the first byte. Assumes nothing.
-use Rattle.compiled.specs.Entries.{tagOf}
+use Rattle.compiled_spec.specs.Entries.{tagOf}
 use borrow.Author.Needs.{needs}
 use Rattle.compiled.proofs.entries.tag.Statement.{statement}
 use Rattle.compiled.proofs.entries.tag.Tie as tie

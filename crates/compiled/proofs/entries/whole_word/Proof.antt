@@ -1,5 +1,5 @@
 -- `entries::whole_word` meets its contract: the word of a whole entry lies inside. Assumes nothing.
-use Rattle.compiled.specs.Entries.{whole-long, word-cut}
+use Rattle.compiled_spec.specs.Entries.{whole-long, word-cut}
 use native.Mathlib.Omega.{arith}
 use borrow.Author.Needs.{needs}
 use Rattle.compiled.proofs.entries.whole_word.Statement.{statement}

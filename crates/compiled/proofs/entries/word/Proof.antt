@@ -1,5 +1,5 @@
 -- `entries::word` meets its contract: the bytes behind the length, cut to it. Assumes nothing.
-use Rattle.compiled.specs.Entries.{wordOf}
+use Rattle.compiled_spec.specs.Entries.{wordOf}
 use mathlib.Core.Path.{_∙_}
 use borrow.Author.Needs.{needs}
 use Rattle.compiled.proofs.entries.word.Statement.{statement}

@@ -1,5 +1,5 @@
 -- `search::choose` meets its contract: where the search ends at an entry, the rest is told from there. Assumes nothing.
-use Rattle.compiled.specs.Search.{chosen}
+use Rattle.compiled_spec.specs.Search.{chosen}
 use mathlib.Core.Path.{sym, _∙_}
 use borrow.Author.Needs.{needs}
 use Rattle.compiled.proofs.search.choose.Statement.{statement}

@@ -1,6 +1,6 @@
 -- `search::from_place` meets its contract: each return is decided by the first test of the definition that fails. Assumes nothing.
-use Rattle.compiled.specs.Search.{fromPlace}
-use Rattle.compiled.specs.Entries.{count}
+use Rattle.compiled_spec.specs.Search.{fromPlace}
+use Rattle.compiled_spec.specs.Entries.{count}
 use borrow.Author.Tests.{not-true, not-false, lt-ltb, le-ltb}
 use mathlib.Core.Path.{sym, _∙_}
 use native.Mathlib.Omega.{arith}

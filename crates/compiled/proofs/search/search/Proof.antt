@@ -1,6 +1,6 @@
 -- `search::search` meets its contract: the search so far leaves the search between lo and hi. Assumes nothing.
-use Rattle.compiled.specs.Search.{search as searched, search-end, search-damaged, search-up, search-down}
-use Rattle.compiled.specs.Entries.{wordOf, isWhole, entryAt}
+use Rattle.compiled_spec.specs.Search.{search as searched, search-end, search-damaged, search-up, search-down}
+use Rattle.compiled_spec.specs.Entries.{wordOf, isWhole, entryAt}
 use Rattle.texts.specs.Text.{smaller}
 use borrow.Author.Tests.{not-true, not-false}
 use mathlib.Core.Bool.{true, false}

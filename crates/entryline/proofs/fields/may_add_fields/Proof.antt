@@ -1,5 +1,5 @@
 -- `fields::may_add_fields` meets its contract: the fields passed may be added, so those left decide. Assumes nothing.
-use Rattle.lexicon.specs.Adding.{mayAdd}
+use Rattle.lexicon_spec.specs.Adding.{mayAdd}
 use Rattle.lines.specs.Turns.{fields-none, fields-more, field-forward, fields-past}
 use Rattle.lines.specs.Lines.{isEmpty, field, fields}
 use Rattle.texts.specs.Lists.{every}

@@ -1,6 +1,6 @@
 -- `line::add_cells` meets its contract: room's front is the cells of the fields, whose phones are the fields. Assumes nothing.
-use Rattle.entryline.specs.Line.{lineEntry}
-use Rattle.store.specs.Adding.{entryFor}
+use Rattle.addtext_spec.specs.Line.{lineEntry}
+use Rattle.store_spec.specs.Adding.{entryFor}
 use Rattle.lines.specs.Lines.{fields}
 use Rattle.cells.specs.Cells.{cellsOf, phonesOf, length-cellsOf, phones-cells}
 use Rattle.records.specs.Records.{take-front}

@@ -1,8 +1,8 @@
 -- `line::add_entry` meets its contract: each return is decided by the first test of the definition that fails. Assumes nothing.
-use Rattle.entryline.specs.Line.{lineEntry, judged, onOutcome}
-use Rattle.entryline.specs.Phones.{may-phones}
-use Rattle.lexicon.specs.Adding.{mayAdd}
-use Rattle.store.specs.Adding.{isFull, kept}
+use Rattle.addtext_spec.specs.Line.{lineEntry, judged, onOutcome}
+use Rattle.addtext_spec.specs.Phones.{may-phones}
+use Rattle.lexicon_spec.specs.Adding.{mayAdd}
+use Rattle.store_spec.specs.Adding.{isFull, kept}
 use Rattle.lines.specs.Lines.{fields}
 use Rattle.texts.specs.Lists.{every}
 use Rattle.texts.specs.Text.{phone-short}

@@ -1,5 +1,5 @@
 -- `line::take_content` meets its contract: blank, no colon, no word, or an entry. Assumes nothing.
-use Rattle.entryline.specs.Line.{onContent, outcome, behindLine, on-word, on-nothing}
+use Rattle.addtext_spec.specs.Line.{onContent, outcome, behindLine, on-word, on-nothing}
 use Rattle.lines.specs.Lines.{isEmpty, field, afterField, fields, stripped}
 use Rattle.texts.specs.Text.{is}
 use Rattle.texts.specs.Lists.{place}

@@ -1,5 +1,5 @@
 -- `line::take_line` meets its contract: the content decides. Assumes nothing.
-use Rattle.entryline.specs.Line.{readLine}
+use Rattle.addtext_spec.specs.Line.{readLine}
 use borrow.Author.Needs.{needs}
 use Rattle.entryline.proofs.line.take_line.Statement.{statement}
 use Rattle.entryline.proofs.line.take_line.Tie as tie

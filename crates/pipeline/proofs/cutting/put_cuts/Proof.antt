@@ -8,8 +8,8 @@ use mathlib.Core.List.{List, [], _++_}
 use lib.ListN.{length, drop, take, length-set}
 use Rattle.cells.specs.Cells.{phonesOf, length-phonesOf}
 use Rattle.syllabify.proofs.Written.{written-more, untouched-more, written-all}
-use Rattle.wordlaws.specs.Cutting.{stressed, cutsOf}
-use Rattle.wordlaws.specs.CutLaws.{cuts-turn, cuts-end}
+use Rattle.pipeline_spec.specs.Cutting.{stressed, cutsOf}
+use Rattle.pipeline_spec.specs.CutLaws.{cuts-turn, cuts-end}
 use Rattle.pipeline.proofs.cutting.put_cuts.Tie as tie
 
 abbrev Inv-loop : tie.InvT-loop

@@ -12,11 +12,11 @@ use Rattle.answers.specs.declared.Looked.{Looked}
 use Rattle.answers.specs.declared.Looked.the-variants.{Refused, Nothing, Found}
 use Rattle.answers.specs.Told.{toldLooked}
 use Rattle.lts.specs.Letters.{letters}
-use Rattle.store.specs.Store.{entries}
-use Rattle.lexicon.specs.Lookup.{Finding, find, wantedTag, toldFinding, outFinding}
-use Rattle.wordlaws.specs.Pronounced.{pronounced}
-use Rattle.wordlaws.specs.Sources.{letters-few}
-use Rattle.wordlaws.specs.ChosenSource.{lookup-refused, lookup-followed}
+use Rattle.store_spec.specs.Store.{entries}
+use Rattle.lexicon_spec.specs.Lookup.{Finding, find, wantedTag, toldFinding, outFinding}
+use Rattle.pipeline_spec.specs.Pronounced.{pronounced}
+use Rattle.pipeline_spec.specs.Sources.{letters-few}
+use Rattle.pipeline_spec.specs.ChosenSource.{lookup-refused, lookup-followed}
 use Rattle.answers.proofs.Looked as looked
 use Rattle.pipeline.proofs.pronouncing.pronounce.Tie as tie
 

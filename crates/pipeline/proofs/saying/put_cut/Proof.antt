@@ -8,13 +8,13 @@ use lib.ListN.{length, take, drop}
 use borrow.Author.Tests.{le-leb, lt-leb}
 use Rattle.cells.specs.Cells.{phonesOf}
 use Rattle.phoneset.specs.Stress.{bare}
-use Rattle.utterance.specs.Tree.{Word}
-use Rattle.utterance.specs.Sheet.{used, items}
-use Rattle.utterance.specs.Append.{size, sizeIn, appended}
-use Rattle.utterance.specs.Decided.{sound}
-use Rattle.utterance.specs.Appended.{few, last-word-in, last-phone-in}
-use Rattle.wordlaws.specs.Pronounced.{said}
-use Rattle.wordlaws.specs.Handed.{Handed, handed}
+use Rattle.utterance_spec.specs.Tree.{Word}
+use Rattle.utterance_spec.specs.Sheet.{used, items}
+use Rattle.utterance_spec.specs.Append.{size, sizeIn, appended}
+use Rattle.utterance_spec.specs.Decided.{sound}
+use Rattle.utterance_spec.specs.Appended.{few, last-word-in, last-phone-in}
+use Rattle.pipeline_spec.specs.Pronounced.{said}
+use Rattle.pipeline_spec.specs.Handed.{Handed, handed}
 use Rattle.pipeline.proofs.saying.put_cut.Tie as tie
 
 given : (c : tie.After-head2) → Handed (c .before .before .before .before .before .before .before .before .before .before .before .before .before .before .before .before .before .before .before .before .args .phones .now) (c .before .before .head .result .now) (c .head2 .result .now)

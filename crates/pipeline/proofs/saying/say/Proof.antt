@@ -6,17 +6,17 @@ use native.Mathlib.Omega.{arith}
 use mathlib.Core.Path.{_≡_, sym, ap, _∙_}
 use mathlib.Core.List.{List}
 use lib.ListN.{length, take, length-take}
-use Rattle.store.specs.Store.{entries}
-use Rattle.store.specs.Sound.{sound}
+use Rattle.store_spec.specs.Store.{entries}
+use Rattle.store_spec.specs.Sound.{sound}
 use Rattle.answers.specs.Told.{toldPredicted, accepted}
-use Rattle.wordlaws.specs.Pronounced.{pronounced, phones}
-use Rattle.wordlaws.specs.Sources.{entries-fit}
-use Rattle.wordlaws.specs.Fits.{pronounced-fits}
-use Rattle.wordlaws.specs.Outcome.{pronounced-real, said-refused, said-phones, phones-few}
+use Rattle.pipeline_spec.specs.Pronounced.{pronounced, phones}
+use Rattle.pipeline_spec.specs.Sources.{entries-fit}
+use Rattle.pipeline_spec.specs.Fits.{pronounced-fits}
+use Rattle.pipeline_spec.specs.Outcome.{pronounced-real, said-refused, said-phones, phones-few}
 use Rattle.texts.specs.Text.{isPhone}
 use Rattle.texts.specs.Lists.{every}
 use mathlib.Core.Bool.{true}
-use Rattle.wordlaws.specs.Cutting.{toldSpoken}
+use Rattle.pipeline_spec.specs.Cutting.{toldSpoken}
 use Rattle.pipeline.proofs.saying.say.Tie as tie
 
 fits : (c : tie.After-known-told2) (ps : List (List ℕ)) → pronounced (record { lexPhones = c .before .before .before .before .before .before .before .before .before .before .before .before .before .before .before .before .before .before .before .before .args .phones .now; lexIndex = c .before .before .before .before .before .before .before .before .before .before .before .before .before .before .before .before .before .before .before .before .args .index .now; lexData = c .before .before .before .before .before .before .before .before .before .before .before .before .before .before .before .before .before .before .before .before .args .dat .now; ltsPhones = c .before .before .before .before .before .before .before .before .before .before .before .before .before .before .before .before .before .before .before .before .args .sounds .now; ltsIndex = c .before .before .before .before .before .before .before .before .before .before .before .before .before .before .before .before .before .before .before .before .args .starts .now; ltsModel = c .before .before .before .before .before .before .before .before .before .before .before .before .before .before .before .before .before .before .before .before .args .model .now }) (entries (c .before .before .before .before .before .before .before .before .before .before .before .before .before .before .before .before .before .before .before .before .args .store .now)) (c .before .before .before .before .before .before .before .before .before .before .before .before .before .before .before .before .before .before .before .before .args .word .now) (c .before .before .before .before .before .before .before .before .before .before .before .before .before .before .before .before .before .before .before .before .args .tag .now) ≡ phones ps → every isPhone ps ≡ true

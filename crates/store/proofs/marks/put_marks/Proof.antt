@@ -5,9 +5,9 @@ use mathlib.Core.Path.{_≡_, refl, sym, ap, _∙_}
 use mathlib.Core.List.{List, _++_, map}
 use lib.ListN.{length, take, length-set}
 use Rattle.records.specs.Chain.{chain, chain-stop, chain-end}
-use Rattle.slots.specs.Slot.{entryOf}
-use Rattle.store.specs.Store.{next, entryAt}
-use Rattle.store.specs.Marks.{markOf, markAt, marked-turn, marked-end}
+use Rattle.slots_spec.specs.Slot.{entryOf}
+use Rattle.store_spec.specs.Store.{next, entryAt}
+use Rattle.store_spec.specs.Marks.{markOf, markAt, marked-turn, marked-end}
 use borrow.Author.Needs.{needs}
 use Rattle.store.proofs.marks.put_marks.Statement.{statement}
 use Rattle.store.proofs.marks.put_marks.Tie as tie

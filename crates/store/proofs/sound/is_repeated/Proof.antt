@@ -6,8 +6,8 @@ use borrow.Author.Tests.{not-true}
 use Rattle.texts.specs.Lists.{some}
 use Rattle.texts.specs.Text.{is}
 use Rattle.records.specs.Chain.{chain}
-use Rattle.store.specs.Store.{next}
-use Rattle.store.specs.Marks.{markAt, unmarked}
+use Rattle.store_spec.specs.Store.{next}
+use Rattle.store_spec.specs.Marks.{markAt, unmarked}
 use borrow.Author.Needs.{needs}
 use Rattle.store.proofs.sound.is_repeated.Statement.{statement}
 use Rattle.store.proofs.sound.is_repeated.Tie as tie

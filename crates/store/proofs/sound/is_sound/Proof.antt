@@ -12,7 +12,7 @@ use Rattle.texts.specs.Text.{is}
 use Rattle.texts.specs.Lists.{every}
 use Rattle.records.specs.Chain.{chain, endOf}
 use Rattle.records.specs.Records.{recordAt}
-use Rattle.store.specs.Store.{next, last, used, slots, entryAt, order, entries, isStoreLength, keysDiffer, walks, isSound}
+use Rattle.store_spec.specs.Store.{next, last, used, slots, entryAt, order, entries, isStoreLength, keysDiffer, walks, isSound}
 use borrow.Author.Needs.{needs}
 use Rattle.store.proofs.sound.is_sound.Statement.{statement}
 use Rattle.store.proofs.sound.is_sound.Tie as tie

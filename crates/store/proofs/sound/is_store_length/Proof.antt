@@ -1,7 +1,7 @@
 -- `store::is_store_length` meets its contract: the first test that fails decides. Assumes nothing.
 use borrow.Author.Tests.{le-leb, lt-leb}
 use native.Mathlib.Omega.{arith}
-use Rattle.store.specs.Store.{isStoreLength}
+use Rattle.store_spec.specs.Store.{isStoreLength}
 use Rattle.store.proofs.sound.is_store_length.Statement.{statement}
 use Rattle.store.proofs.sound.is_store_length.Tie as tie
 

@@ -5,8 +5,8 @@ use mathlib.Core.Bool.{true, false}
 use mathlib.Core.List.{List}
 use Prim.Native.Nat.{ℕ}
 use Rattle.texts.specs.Text.{agree, same}
-use Rattle.slots.specs.Slot.{entryOf}
-use Rattle.store.specs.Store.{isWanted}
+use Rattle.slots_spec.specs.Slot.{entryOf}
+use Rattle.store_spec.specs.Store.{isWanted}
 use borrow.Author.Needs.{needs}
 use Rattle.store.proofs.sound.is_wanted.Statement.{statement}
 use Rattle.store.proofs.sound.is_wanted.Tie as tie

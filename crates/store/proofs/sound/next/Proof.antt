@@ -1,5 +1,5 @@
 -- `store::next` meets its contract: the field at the slot's start. Assumes nothing.
-use Rattle.store.specs.Store.{next}
+use Rattle.store_spec.specs.Store.{next}
 use borrow.Author.Needs.{needs}
 use Rattle.store.proofs.sound.next.Statement.{statement}
 use Rattle.store.proofs.sound.next.Tie as tie

@@ -7,10 +7,10 @@ use mathlib.Core.List.{List}
 use mathlib.Core.Bool.{true, false}
 use lib.ListN.{length}
 use lib.Dec.{eqb}
-use Rattle.slots.specs.Slot.{isSlot}
+use Rattle.slots_spec.specs.Slot.{isSlot}
 use Rattle.records.specs.Records.{recordAt}
-use Rattle.store.specs.Turns.{length-slotAt, walks-turn, walks-short, walks-past, walks-stop, walks-end}
-use Rattle.store.specs.Store.{walks}
+use Rattle.store_spec.specs.Turns.{length-slotAt, walks-turn, walks-short, walks-past, walks-stop, walks-end}
+use Rattle.store_spec.specs.Store.{walks}
 use borrow.Author.Needs.{needs}
 use Rattle.store.proofs.sound.walks.Statement.{statement}
 use Rattle.store.proofs.sound.walks.Tie as tie

@@ -2,7 +2,7 @@
 use borrow.Author.Needs.{needs}
 use Rattle.utterance.proofs.fields.text.Statement.{statement}
 use mathlib.Core.Path.{_∙_}
-use Rattle.utterance.specs.Sheet.{at}
+use Rattle.utterance_spec.specs.Sheet.{at}
 use Rattle.utterance.proofs.fields.text.Tie as tie
 
 item-requires : tie.Need-item-requires

@@ -3,7 +3,7 @@ use borrow.Author.Needs.{needs}
 use Rattle.utterance.proofs.links.after.Statement.{statement}
 use borrow.Author.Tests.{eq-eqb, ne-eqb}
 use mathlib.Core.Path.{_∙_, sym}
-use Rattle.utterance.specs.Sheet.{at, after}
+use Rattle.utterance_spec.specs.Sheet.{at, after}
 use Rattle.utterance.proofs.links.after.Tie as tie
 
 first-requires : tie.Need-first-requires

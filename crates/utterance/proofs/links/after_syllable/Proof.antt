@@ -3,7 +3,7 @@ use borrow.Author.Needs.{needs}
 use Rattle.utterance.proofs.links.after_syllable.Statement.{statement}
 use borrow.Author.Tests.{eq-eqb, ne-eqb}
 use mathlib.Core.Path.{_∙_, sym}
-use Rattle.utterance.specs.Sheet.{at, afterSyllable}
+use Rattle.utterance_spec.specs.Sheet.{at, afterSyllable}
 use Rattle.utterance.proofs.links.after_syllable.Tie as tie
 
 next-requires : tie.Need-next-requires

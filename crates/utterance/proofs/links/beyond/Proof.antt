@@ -2,7 +2,7 @@
 use borrow.Author.Needs.{needs}
 use Rattle.utterance.proofs.links.beyond.Statement.{statement}
 use borrow.Author.Tests.{eq-eqb, ne-eqb}
-use Rattle.utterance.specs.Sheet.{beyond}
+use Rattle.utterance_spec.specs.Sheet.{beyond}
 use Rattle.utterance.proofs.links.beyond.Tie as tie
 
 kind-requires : tie.Need-kind-requires

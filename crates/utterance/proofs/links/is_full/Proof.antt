@@ -2,7 +2,7 @@
 use borrow.Author.Needs.{needs}
 use Rattle.utterance.proofs.links.is_full.Statement.{statement}
 use borrow.Author.Tests.{eq-eqb, ne-eqb}
-use Rattle.utterance.specs.Sheet.{isFull}
+use Rattle.utterance_spec.specs.Sheet.{isFull}
 use Rattle.utterance.proofs.links.is_full.Tie as tie
 
 kind-requires : tie.Need-kind-requires

@@ -2,7 +2,7 @@
 use borrow.Author.Needs.{needs}
 use Rattle.utterance.proofs.links.is_parent.Statement.{statement}
 use borrow.Author.Tests.{eq-eqb, ne-eqb}
-use Rattle.utterance.specs.Sheet.{isParent}
+use Rattle.utterance_spec.specs.Sheet.{isParent}
 use Rattle.utterance.proofs.links.is_parent.Tie as tie
 
 first-requires : tie.Need-first-requires

@@ -2,7 +2,7 @@
 use borrow.Author.Needs.{needs}
 use Rattle.utterance.proofs.links.is_sibling.Statement.{statement}
 use borrow.Author.Tests.{eq-eqb, ne-eqb}
-use Rattle.utterance.specs.Sheet.{isSibling}
+use Rattle.utterance_spec.specs.Sheet.{isSibling}
 use Rattle.utterance.proofs.links.is_sibling.Tie as tie
 
 next-requires : tie.Need-next-requires

@@ -2,7 +2,7 @@
 use Rattle.utterance.proofs.sound.is_sheet_length.Statement.{statement}
 use borrow.Author.Tests.{le-leb, lt-leb}
 use native.Mathlib.Omega.{arith}
-use Rattle.utterance.specs.Sheet.{isSheetLength}
+use Rattle.utterance_spec.specs.Sheet.{isSheetLength}
 use Rattle.utterance.proofs.sound.is_sheet_length.Tie as tie
 
 returns : tie.Need-returns

@@ -12,8 +12,8 @@ use lib.ListN.{length}
 use Rattle.texts.specs.Choice.{both-true}
 use Rattle.records.specs.Records.{recordAt}
 use Rattle.items.specs.Item.{isHead}
-use Rattle.utterance.specs.Sheet.{at, used, items, isSheetLength, isParent, isSound}
-use Rattle.utterance.specs.Turns.{length-itemAt, ordered-sound}
+use Rattle.utterance_spec.specs.Sheet.{at, used, items, isSheetLength, isParent, isSound}
+use Rattle.utterance_spec.specs.Turns.{length-itemAt, ordered-sound}
 use Rattle.utterance.proofs.sound.is_sound.Tie as tie
 
 fitting : (c : tie.Else1) → isSheetLength (length (c .before .before .before .args .sheet .now)) ≡ true

@@ -1,3 +1,0 @@
-pub mod Call
-pub mod Turns
-pub mod Accepted

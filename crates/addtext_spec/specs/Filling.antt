@@ -1,0 +1,43 @@
+-- 01, Lookup: Adding. The lines of a text in turn, up to the first fault, and the entries that they add.
+-- Assumes nothing.
+use Prim.Native.Nat.{ℕ, _+_}
+use mathlib.Core.List.{List, [], _∷_, _++_}
+use Rattle.slots_spec.specs.Slot.{Entry}
+use Rattle.store_spec.specs.Adding.{adding}
+use Rattle.answers.specs.declared.Answer.{Answer}
+use Rattle.answers.specs.Told.{refusalNumber, refused, accepted}
+use Rattle.addtext_spec.specs.Line.{Line, skipped, faulty, entry, readLine, lineEntry, outcome, behindLine}
+use Rattle.addtext_spec.specs.declared.Outcome.{Outcome}
+use Rattle.addtext_spec.specs.declared.Outcome.the-variants.{Skipped, Taken, Refused}
+
+-- how far the lines came: the answer, and the store with the lines before a fault applied
+pub record Filled : Type 0 where
+  pub answer : Answer
+  pub store : List ℕ
+
+-- behind the outcome of line n, with k entry lines taken before it and s the store behind it, `go` takes the lines that follow
+unfoldable pub onward : ℕ → ℕ → List ℕ → (ℕ → Filled) → Outcome → Filled
+onward n k s go Skipped = go k
+onward n k s go Taken = go (k + 1)
+onward n k s go (Refused r) = record { answer = refused (refusalNumber r) n; store = s }
+
+-- the lines in turn, counted from n on; skipped ones count too
+unfoldable pub filled : List ℕ → List ℕ → ℕ → ℕ → List (List ℕ) → Filled
+filled table store n k [] = record { answer = accepted 0 k; store = store }
+filled table store n k (l ∷ ls) =
+    onward n k (behindLine table store (readLine l)) (λ (m : ℕ). filled table (behindLine table store (readLine l)) (n + 1) m ls) (outcome table store (readLine l))
+
+-- the entries of the lines, in their order
+unfoldable pub entriesOf : Line → List Entry
+entriesOf skipped = []
+entriesOf faulty = []
+entriesOf (entry word tag phones) = lineEntry word tag phones ∷ []
+
+unfoldable pub lineEntries : List (List ℕ) → List Entry
+lineEntries [] = []
+lineEntries (l ∷ ls) = entriesOf (readLine l) ++ lineEntries ls
+
+-- the adding rule for each entry in turn
+unfoldable pub addingAll : List Entry → List Entry → List Entry
+addingAll [] es = es
+addingAll (e ∷ more) es = addingAll more (adding e es)

@@ -1,2 +1,0 @@
-pub mod Phones
-pub mod Line

@@ -1,0 +1,94 @@
+-- `lexicon::find` meets its contract: the store, the addenda and the compiled entries, in that order. Assumes nothing.
+use Rattle.lexicon_spec.specs.Lookup.{find-runtime, find-row, find-compiled}
+use Rattle.store_spec.specs.Found.{tells, foundAt, found-none, found-some}
+use Rattle.store_spec.specs.Sound.{sound}
+use Rattle.store_spec.specs.Store.{isWanted, entries, entryAt}
+use Rattle.slots_spec.specs.Slot.{entryOf}
+use Rattle.texts.specs.Text.{folded}
+use Rattle.texts.specs.Lists.{first}
+use mathlib.Core.List.{List, map}
+use mathlib.Core.Bool.{true}
+use mathlib.Core.Path.{_≡_, sym, ap, _∙_}
+use Prim.Native.Nat.{ℕ}
+use borrow.Author.Needs.{needs}
+use Rattle.lexicon.proofs.find.Statement.{statement}
+use Rattle.lexicon.proofs.find.Tie as tie
+
+which : (c : tie.After-runtime) → first (isWanted true (map folded (c .before .before .before .before .before .before .before .before .args .word .now)) (c .before .before .before .before .before .before .before .before .args .tag)) (entries (c .before .before .before .before .before .before .before .before .args .store .now)) ≡ foundAt (c .before .before .before .before .before .before .before .before .args .store .now) (c .runtime .result)
+which c =
+    let a = c .before .before .before .before .before .before .before .before .args in
+    let b = a .store .now in
+    tells b (isWanted true (map folded (a .word .now)) (a .tag)) (sound b (c .before .before .before .before .before .before .before .before .pre .1 .1)) .which
+    ∙ ap (foundAt b) (sym (c .runtime .ensures .0))
+
+runtime-requires : tie.Need-runtime-requires
+runtime-requires c κs = c .before .before .before .before .before .before .before .pre .1 .2
+
+slot-requires : tie.Need-slot-requires
+slot-requires c κs = c .before .runtime .ensures .1
+
+phones-requires : tie.Need-phones-requires
+phones-requires c κs = search needs
+
+give-cells-requires : tie.Need-give-cells-requires
+give-cells-requires c κs = search needs
+
+same-length : tie.Need-same-length
+same-length c = c .before .before .give-cells .kept .1 .0
+
+returns : tie.Need-returns
+unfolding entryAt
+returns c =
+    let a = c .before .before .before .before .before .before .before .before .before .before .before .before .before .before .before .args in
+    let b = a .store .now in
+    let n = c .before .before .before .before .before .before .before .runtime .result in
+    let w = which (c .before .before .before .before .before .before .before) ∙ found-some b n (c .before .before .before .before .before .before .if1 .taken) in
+    let p = c .before .before .before .before .phones .ensures ∙ ap (λ (r : List ℕ). entryOf r .phones) (c .before .before .before .before .before .slot .ensures) in
+    rw (find-runtime (entries b) (a .phones .now) (a .index .now) (a .dat .now) (a .word .now) (a .tag) (entryAt b n) w, ← p) (c .before .before .give-cells .ensures)
+
+find-requires : tie.Need-find-requires
+find-requires c κs = search needs
+
+give-row-requires : tie.Need-give-row-requires
+give-row-requires c κs = c .before .if2 .taken
+
+same-length-2 : tie.Need-same-length-2
+same-length-2 c = c .before .before .give-row .kept .1 .0
+
+returns-2 : tie.Need-returns-2
+returns-2 c =
+    let a = c .before .before .before .before .before .before .before .before .before .before .before .before .before .before .before .args in
+    let b = a .store .now in
+    let w = which (c .before .before .before .before .before .before .before) ∙ found-none b (c .before .before .before .before .before .before .before .runtime .result) (c .before .before .before .before .before .before .if1 .left) in
+    rw (find-row (entries b) (a .phones .now) (a .index .now) (a .dat .now) (a .word .now) (a .tag) w (c .before .before .before .before .before .find .result) (c .before .before .before .before .before .find .ensures) (c .before .before .before .before .if2 .taken)) (c .before .before .give-row .ensures)
+
+give-compiled-requires : tie.Need-give-compiled-requires
+give-compiled-requires c κs = let p = c .before .before .before .before .before .before .before .before .before .before .before .before .pre in (p .0, p .1 .0)
+
+same-length-3 : tie.Need-same-length-3
+same-length-3 c = c .before .before .give-compiled .kept .1 .1 .1 .1 .1 .1 .0
+
+returns-3 : tie.Need-returns-3
+returns-3 c =
+    let a = c .before .before .before .before .before .before .before .before .before .before .before .before .before .before .before .args in
+    let b = a .store .now in
+    let w = which (c .before .before .before .before .before .before .before) ∙ found-none b (c .before .before .before .before .before .before .before .runtime .result) (c .before .before .before .before .before .before .if1 .left) in
+    rw (find-compiled (entries b) (a .phones .now) (a .index .now) (a .dat .now) (a .word .now) (a .tag) w (c .before .before .before .before .before .find .result) (c .before .before .before .before .before .find .ensures) (c .before .before .before .before .if2 .left)) (c .before .before .give-compiled .ensures)
+
+pub find-spec : {M : Type 1} → statement M
+find-spec =
+    tie.close
+    (tie.spec
+    runtime-requires
+    slot-requires
+    phones-requires
+    give-cells-requires
+    same-length
+    returns
+    find-requires
+    give-row-requires
+    same-length-2
+    returns-2
+    give-compiled-requires
+    same-length-3
+    returns-3)

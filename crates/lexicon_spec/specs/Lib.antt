@@ -1,0 +1,3 @@
+pub mod Lookup
+pub mod Adding
+pub mod Fitting

@@ -1,0 +1,32 @@
+-- A pronounced word in bytes: what was pronounced as an answer and as cells; and the bytes that tell where its syllables end, with their stress.
+-- Assumes nothing.
+use Prim.Native.Nat.{ℕ, _*_}
+use mathlib.Core.List.{List, [], _∷_, _++_}
+use lib.Dec.{eqb}
+use lib.ListN.{length, drop}
+use Rattle.texts.specs.Choice.{if_then_else_}
+use Rattle.phoneset.specs.Stress.{digits, isStressed, stress}
+use Rattle.cells.specs.Cells.{cellsOf}
+use Rattle.answers.specs.declared.Answer.{Answer}
+use Rattle.answers.specs.Told.{refused, accepted}
+use Rattle.pipeline_spec.specs.Pronounced.{Spoken, barred, phones}
+
+-- a refusal, or how many phones
+abbrev pub toldSpoken : Spoken → Answer
+toldSpoken (barred n) = refused n 0
+toldSpoken (phones ps) = accepted 0 (length ps)
+
+-- the phones at the front of a room, which keeps its bytes past them
+abbrev pub cellsSpoken : Spoken → List ℕ → List ℕ
+cellsSpoken (barred n) room = room
+cellsSpoken (phones ps) room = cellsOf ps ++ drop (16 * length ps) room
+
+-- the stress behind a phone: its own, else the one before it
+unfoldable pub stressed : ℕ → List ℕ → ℕ
+stressed d p = if isStressed digits p then stress digits p else d
+
+-- at each phone the stress of the syllable that a mark ends there, 0 where none ends; d is the last stress before
+unfoldable pub cutsOf : ℕ → List ℕ → List (List ℕ) → List ℕ
+cutsOf d [] ps = []
+cutsOf d (m ∷ ms) [] = []
+cutsOf d (m ∷ ms) (p ∷ ps) = if eqb m 1 then stressed d p ∷ cutsOf 48 ms ps else 0 ∷ cutsOf (stressed d p) ms ps

@@ -1,0 +1,10 @@
+pub mod Fits
+pub mod Cutting
+pub mod ChosenSource
+pub mod Placing
+pub mod BareCells
+pub mod Sources
+pub mod Handed
+pub mod Outcome
+pub mod CutLaws
+pub mod Pronounced

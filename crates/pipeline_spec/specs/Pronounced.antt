@@ -1,0 +1,57 @@
+-- 01, Store and sheet: say word follows `insert_pronunciations`. The phones of a word: looked up, or from the letter trees where no source has it; and its syllables.
+-- Assumes nothing.
+use Prim.Native.Nat.{ℕ}
+use mathlib.Core.Bool.{false}
+use mathlib.Core.List.{List, [], _∷_, map}
+use mathlib.Core.Option.{Option, none, some}
+use lib.Dec.{ltb}
+use lib.ListN.{length}
+use Rattle.texts.specs.Choice.{if_then_else_}
+use Rattle.phoneset.specs.Stress.{digits, isStressed, stress, bare}
+use Rattle.onsets.specs.Onsets.{onsets}
+use Rattle.slots_spec.specs.Slot.{Entry}
+use Rattle.syllabify.specs.Syllables.{marks, syllables}
+use Rattle.lts.specs.Letters.{letters}
+use Rattle.lexicon_spec.specs.Lookup.{Finding, nothing, damaged, found, find, wantedTag}
+use Rattle.utterance_spec.specs.Tree.{Syllable, Word}
+
+-- the sections that say word takes
+pub record Sections : Type 0 where
+  pub lexPhones : List ℕ
+  pub lexIndex : List ℕ
+  pub lexData : List ℕ
+  pub ltsPhones : List ℕ
+  pub ltsIndex : List ℕ
+  pub ltsModel : List ℕ
+
+-- what a word comes to: the number of a refusal, or phones
+pub data Spoken : Type 0 where
+  barred : ℕ → Spoken
+  phones : List (List ℕ) → Spoken
+
+abbrev pub onLetters : Option (List (List ℕ)) → Spoken
+onLetters none = barred 6
+onLetters (some ps) = phones ps
+
+-- only "none" goes on to the letter trees
+abbrev pub onFinding : Finding → Option (List (List ℕ)) → Spoken
+onFinding nothing fromLetters = onLetters fromLetters
+onFinding damaged fromLetters = barred 6
+onFinding (found s ps) fromLetters = if ltb 96 (length ps) then barred 7 else phones ps
+
+unfoldable pub pronounced : Sections → List Entry → List ℕ → List ℕ → Spoken
+pronounced c es word tag =
+    onFinding (find es (c .lexPhones) (c .lexIndex) (c .lexData) word (wantedTag tag)) (letters (c .ltsPhones) (c .ltsIndex) (c .ltsModel) word)
+
+-- the last stress among phones, d if there is none
+unfoldable pub lastStress : ℕ → List (List ℕ) → ℕ
+lastStress d [] = d
+lastStress d (p ∷ ps) = lastStress (if isStressed digits p then stress digits p else d) ps
+
+-- a syllable: its last stress, else "0", and its bare phones
+unfoldable pub sung : List (List ℕ) → Syllable
+sung ps = record { stress = lastStress 48 ps; phones = map (bare digits) ps }
+
+-- the word as given; its syllables end at syllabify's marks over the bare phones
+unfoldable pub said : List ℕ → List (List ℕ) → Word
+said word ps = record { text = word; syllables = map sung (syllables (marks onsets false (map (bare digits) ps)) ps) }

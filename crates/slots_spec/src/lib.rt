@@ -1,0 +1,1 @@
+// One slot of the store, stated: definitions and laws, no functions. `slots` computes them.

@@ -1,0 +1,16 @@
+pub mod New
+pub mod Found
+pub mod Placed
+pub mod Turns
+pub mod Result
+pub mod Marks
+pub mod Added
+pub mod Tied
+pub mod Sound
+pub mod Known
+pub mod Cut
+pub mod Keys
+pub mod Adding
+pub mod Bytes
+pub mod Store
+pub mod Sought

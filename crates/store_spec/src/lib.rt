@@ -1,0 +1,1 @@
+// The entry store, stated: definitions and laws, no functions. `store` computes them.

@@ -1,0 +1,1 @@
+// The sheet, stated: definitions and laws, no functions. `utterance` and `appending` compute them.
