@@ -10,7 +10,7 @@ use Rattle.texts.specs.Choice.{cases}
 use Rattle.texts.specs.Text.{ascii}
 use Rattle.data.specs.Sections.{isPhoneTable}
 use Rattle.lines.specs.Lines.{lines}
-use Rattle.lines.specs.Ascii.{ascii-lines}
+use Rattle.lines.specs.Laws.Ascii.{ascii-lines}
 use Rattle.store_spec.specs.Store.{isSound}
 use Rattle.store_spec.specs.Sound.{sound}
 use Rattle.addtext_spec.specs.Filling.{filled, lineEntries}

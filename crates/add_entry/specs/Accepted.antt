@@ -21,7 +21,7 @@ use Rattle.store_spec.specs.Added.{room}
 use Rattle.answers.specs.declared.Answer.{Answer}
 use Rattle.answers.specs.Told.{refused, accepted}
 use Rattle.lexicon_spec.specs.Adding.{newEntry, mayAddAll}
-use Rattle.lexicon_spec.specs.Fitting.{new-fits}
+use Rattle.lexicon_spec.specs.Laws.Fitting.{new-fits}
 use Rattle.add_entry.specs.AddEntry.{addEntry, storeAfter}
 
 -- an answer that is both a refusal and accepted is none

@@ -8,8 +8,8 @@ ghost use Rattle.texts.specs.Lists.{place};
 ghost use Rattle.cells.specs.Cells.{text, cellsOf};
 ghost use Rattle.addenda.specs.Addenda.{addenda, noAddendum, encoded};
 ghost use Rattle.addenda.specs.Find.{isMeant};
-ghost use Rattle.addenda.specs.Rows.{isMeantBy};
-ghost use Rattle.addenda.specs.Starts.{isStart};
+ghost use Rattle.addenda.specs.Laws.Rows.{isMeantBy};
+ghost use Rattle.addenda.specs.Laws.Starts.{isStart};
 
 // A row: a tag, a length byte and six bytes for the word, a count, and as many cells of a length
 // byte and three bytes for the phones, of which there are at most eight.

@@ -8,8 +8,8 @@ ghost use Rattle.store_spec.specs.Store.{isSound};
 ghost use Rattle.lines.specs.Lines.{lines as linesIn};
 ghost use Rattle.answers.specs.Told.{toldLines, written};
 ghost use Rattle.addtext_spec.specs.Filling.{filled};
-use answers::Lines;
 use addtext_spec::Outcome;
+use answers::Lines;
 
 // Adds the lines of a text to a sound store, up to the first fault.
 fn add_lines(table: &[u8], store: &mut [u8], text: &[u8]) -> Lines

@@ -13,7 +13,7 @@ use Rattle.texts.specs.Lists.{every, place}
 use Rattle.texts.specs.Text.{ascii, isWord, is, ascii-take}
 use Rattle.data.specs.Sections.{isPhoneTable}
 use Rattle.lines.specs.Lines.{content, field, isEmpty, fields, afterField}
-use Rattle.lines.specs.Ascii.{ascii-content, ascii-field, ascii-after, ascii-stripped}
+use Rattle.lines.specs.Laws.Ascii.{ascii-content, ascii-field, ascii-after, ascii-stripped}
 use Rattle.slots_spec.specs.Slot.{Entry, Fits, folded-small}
 use Rattle.store_spec.specs.Store.{entries}
 use Rattle.store_spec.specs.Adding.{isFull, added}
@@ -21,15 +21,15 @@ use Rattle.store_spec.specs.Sound.{Sound}
 use Rattle.store_spec.specs.Result.{Added}
 use Rattle.store_spec.specs.Added.{room}
 use Rattle.lexicon_spec.specs.Adding.{mayAdd}
-use Rattle.lexicon_spec.specs.Fitting.{fold-word, tag-low}
+use Rattle.lexicon_spec.specs.Laws.Fitting.{fold-word, tag-low}
 use Rattle.addtext_spec.specs.Filling.{Filled, onward, filled, entriesOf, lineEntries, addingAll}
-use Rattle.addtext_spec.specs.Phones.{may-phones}
+use Rattle.addtext_spec.specs.Laws.Phones.{may-phones}
 use Rattle.addtext_spec.specs.Line.{Line, skipped, faulty, entry, onContent, readLine, lineEntry, judged, outcome, onOutcome, behindLine, on-word, on-nothing}
 use Rattle.answers.specs.declared.Refusal.{Refusal}
 use Rattle.answers.specs.declared.Refusal.the-variants.{Text, UnknownPhone, Phones, Full}
 use Rattle.answers.specs.declared.Answer.{Answer}
 use Rattle.answers.specs.Told.{refusalNumber, refused, written}
-use Rattle.answers.specs.Numbers.{not-zero, refused-never}
+use Rattle.answers.specs.Laws.Numbers.{not-zero, refused-never}
 use Rattle.addtext_spec.specs.declared.Outcome.the-variants.{Taken, Refused}
 
 -- where the answer is a refusal, what was lent stays

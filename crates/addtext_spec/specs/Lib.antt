@@ -1,6 +1,5 @@
--- To believe: Line says what comes of a line, Filling of the lines in turn. The others are laws.
+-- To believe: Line says what comes of a line, Filling of the lines in turn; Grown what lines that are all taken leave.
 pub mod Line
 pub mod Filling
-pub mod Phones
-pub mod Turns
 pub mod Grown
+pub mod Laws

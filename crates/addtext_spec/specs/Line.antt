@@ -12,7 +12,7 @@ use Rattle.texts.specs.Choice.{if_then_else_, cases}
 use Rattle.texts.specs.Lists.{every, place}
 use Rattle.texts.specs.Text.{folded, blank, is}
 use Rattle.lines.specs.Lines.{content, ink, inked, field, afterField, isEmpty, fields, stripped}
-use Rattle.lines.specs.Turns.{fields-none, fields-more}
+use Rattle.lines.specs.Laws.Turns.{fields-none, fields-more}
 use Rattle.slots_spec.specs.Slot.{Entry}
 use Rattle.store_spec.specs.Adding.{isFull, added}
 use Rattle.lexicon_spec.specs.Adding.{addedTag, mayAdd}

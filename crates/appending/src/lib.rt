@@ -14,8 +14,8 @@ ghost use Rattle.utterance_spec.specs.Tree.{syllablesAt};
 ghost use Rattle.utterance_spec.specs.Sheet.{at, used as usedOf, items};
 ghost use Rattle.utterance_spec.specs.Append.{headOr, sizeIn, numbered, phoneItems, wordItems, putItems, tied, appended};
 ghost use Rattle.utterance_spec.specs.Cuts.{grouped, Ended};
-ghost use Rattle.appending.specs.Grouped.{span};
-ghost use Rattle.appending.specs.Putting.{phoneItem, oneSyllable, syllablesFrom};
+ghost use Rattle.appending.specs.Laws.Grouped.{span};
+ghost use Rattle.appending.specs.Laws.Putting.{phoneItem, oneSyllable, syllablesFrom};
 
 // The place behind the next phone that ends a syllable.
 fn end_of(cuts: &[u8], i: usize) -> usize

@@ -39,8 +39,8 @@ use Rattle.pipeline_spec.specs.Placing.{isCrowded, onSpoken as onSpokenAnswer, 
 use Rattle.say_word.specs.SayWord.{sayWord, sheetAfter}
 use Rattle.book.specs.Calls.{Call, makeSheet, addsEntry, addsText, saysWord, Made, State, answer, step, isRefused, leaves, fresh}
 use Rattle.book.specs.Book.{Book, empty, onSpoken, accepts, keeps, hears}
-use Rattle.pipeline_spec.specs.Sources.{entries-fit}
-use Rattle.pipeline_spec.specs.Fits.{pronounced-fits}
+use Rattle.pipeline_spec.specs.Laws.Sources.{entries-fit}
+use Rattle.pipeline_spec.specs.Laws.Fits.{pronounced-fits}
 use Rattle.book.specs.MayStand.{phones-said}
 use Rattle.book.specs.WellCut.{WellCut, said-cut}
 use Rattle.book.specs.Claim.{Each, Tells, tells}

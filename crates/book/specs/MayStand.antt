@@ -16,7 +16,7 @@ use Rattle.onsets.specs.Onsets.{onsets}
 use Rattle.syllabify.specs.Syllables.{marks, syllables, onFirst}
 use Rattle.utterance_spec.specs.Append.{isSyllable, isSaid}
 use Rattle.pipeline_spec.specs.Pronounced.{lastStress, sung, said}
-use Rattle.pipeline_spec.specs.Fits.{isStress, digit}
+use Rattle.pipeline_spec.specs.Laws.Fits.{isStress, digit}
 
 last-stress : (d : ℕ) (ps : List (List ℕ)) → isStress d ≡ true → isStress (lastStress d ps) ≡ true
 unfolding lastStress

@@ -4,8 +4,8 @@ ghost use Prim.Native.Nat.{_+_, _-_, _*_, _≤_};
 ghost use lib.ListN.{length};
 ghost use Rattle.compiled_spec.specs.Entries.{count};
 ghost use Rattle.compiled_spec.specs.Search.{search as searchOf, tagged as taggedOf, fromPlace, chosen};
-use compiled_spec::Chosen;
 use crate::entries;
+use compiled_spec::Chosen;
 
 // The first entry whose word is not smaller, if words don't fall.
 fn search(index: &[u8], lex_data: &[u8], word: &[u8]) -> Chosen

@@ -12,8 +12,8 @@ use Rattle.texts.specs.Lists.{every, place, upTo}
 use Rattle.texts.specs.Text.{same, smaller, same-true, eq-same}
 use Rattle.compiled_spec.specs.declared.Chosen.{Chosen}
 use Rattle.compiled_spec.specs.declared.Chosen.the-variants.{Missing, Entry}
-use Rattle.compiled_spec.specs.Numbers.{below-at, first-below, none-below}
-use Rattle.compiled_spec.specs.Order.{smaller-never-itself, smaller-neither, smaller-larger, larger-chain, smaller-not-same}
+use Rattle.compiled_spec.specs.Laws.Numbers.{below-at, first-below, none-below}
+use Rattle.compiled_spec.specs.Laws.Order.{smaller-never-itself, smaller-neither, smaller-larger, larger-chain, smaller-not-same}
 use Rattle.compiled_spec.specs.Entries.{tagOf, wordOf, isWhole, isSpoken, count, entryAt}
 use Rattle.compiled_spec.specs.Search.{search as searched, tagged, fromPlace, chosen, search-end, search-up, search-down, tagged-end, tagged-other, tagged-stop, tagged-turn}
 use Rattle.compiled_spec.specs.Lexicon.{isGood, rises, isChecked}

@@ -7,7 +7,6 @@ ghost use Rattle.records.specs.Fields.{u32At};
 ghost use Rattle.data.specs.Sections.{isPhoneTable, isListed, isLexIndex, isLtsIndex, isLtsModel, isAswd};
 ghost use Rattle.reader.specs.Reader.{fits};
 ghost use Rattle.data.specs.Places.{textAt, Placed};
-
 use reader::Number;
 use reader::Text;
 

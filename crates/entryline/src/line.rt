@@ -9,8 +9,8 @@ ghost use Rattle.store_spec.specs.Store.{isSound};
 ghost use Rattle.store_spec.specs.Adding.{added, isFull, kept};
 ghost use Rattle.lines.specs.Lines.{fields};
 ghost use Rattle.addtext_spec.specs.Line.{readLine, onContent, lineEntry, judged, onOutcome, outcome, behindLine};
-use addtext_spec::Outcome;
 use crate::fields;
+use addtext_spec::Outcome;
 use answers::Refusal;
 
 // An entry whose phones may be added, and are at most 24, put into a sound store; room is for its cells.

@@ -1,3 +1,3 @@
+-- To believe: Item says what an item of each kind may be.
 pub mod Item
-pub mod Written
-pub mod Patched
+pub mod Laws

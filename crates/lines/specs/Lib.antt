@@ -1,3 +1,3 @@
+-- To believe: Lines says what the lines and fields of a text are.
 pub mod Lines
-pub mod Turns
-pub mod Ascii
+pub mod Laws

@@ -1,1 +1,2 @@
+-- To believe: Lookup says what lookup answers and leaves.
 pub mod Lookup

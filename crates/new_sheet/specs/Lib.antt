@@ -1,3 +1,3 @@
--- To believe: NewSheet says what new sheet does. Fresh has the laws of what it leaves.
+-- To believe: NewSheet says what new sheet does; Fresh what it leaves.
 pub mod NewSheet
 pub mod Fresh

@@ -1,3 +1,3 @@
--- To believe: NewStore says what new store does. Fresh has the laws of what it leaves.
+-- To believe: NewStore says what new store does; Fresh what it leaves.
 pub mod NewStore
 pub mod Fresh

@@ -1,2 +1,3 @@
+-- To believe: PhoneString says what phone string answers and leaves.
 pub mod PhoneString
-pub mod Turns
+pub mod Laws

@@ -6,7 +6,7 @@ ghost use lib.ListN.{length, drop};
 ghost use lib.Seq.{paste};
 ghost use Rattle.answers.specs.Told.{toldJoined};
 ghost use Rattle.phonestring.specs.PhoneString.{string, phoneString, stringAfter};
-ghost use Rattle.phonestring.specs.Turns.{gap as gapOf};
+ghost use Rattle.phonestring.specs.Laws.Turns.{gap as gapOf};
 use answers::Joined;
 use answers::Refusal;
 

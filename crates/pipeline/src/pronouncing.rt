@@ -10,7 +10,7 @@ ghost use Rattle.lts.specs.Letters.{isTrees, letters};
 ghost use Rattle.answers.specs.Told.{toldPredicted};
 ghost use Rattle.pipeline_spec.specs.Pronounced.{pronounced};
 ghost use Rattle.pipeline_spec.specs.Cutting.{toldSpoken, cellsSpoken};
-ghost use Rattle.pipeline_spec.specs.ChosenSource.{toldBehind, roomBehind};
+ghost use Rattle.pipeline_spec.specs.Laws.ChosenSource.{toldBehind, roomBehind};
 use answers::Looked;
 use answers::Predicted;
 

@@ -1,10 +1,5 @@
-pub mod Fits
-pub mod Cutting
-pub mod ChosenSource
-pub mod Placing
-pub mod BareCells
-pub mod Sources
-pub mod Handed
-pub mod Outcome
-pub mod CutLaws
+-- To believe: Pronounced says what phones and syllables a word has, Placing what say word does with them. Cutting, cited by inner contracts alone, is the word in bytes.
 pub mod Pronounced
+pub mod Placing
+pub mod Cutting
+pub mod Laws

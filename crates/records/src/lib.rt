@@ -6,7 +6,7 @@ ghost use lib.Seq.{paste};
 ghost use Rattle.texts.specs.Lists.{every};
 ghost use Rattle.texts.specs.Text.{is};
 ghost use Rattle.records.specs.Fields.{u16At, u32At, put16};
-ghost use Rattle.records.specs.Zeros.{u64At};
+ghost use Rattle.records.specs.Laws.Zeros.{u64At};
 
 // The byte at k.
 pub fn byte_at(s: &[u8], k: usize) -> u8

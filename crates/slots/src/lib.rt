@@ -9,7 +9,7 @@ ghost use Rattle.texts.specs.Text.{folded};
 ghost use Rattle.records.specs.Records.{records};
 ghost use Rattle.cells.specs.Cells.{phonesOf};
 ghost use Rattle.slots_spec.specs.Slot.{slot as slotOf, entryOf, isFolded, isSlot};
-ghost use Rattle.slots_spec.specs.Parts.{isKey, isBlank, usedCells, isTidy};
+ghost use Rattle.slots_spec.specs.Laws.Parts.{isKey, isBlank, usedCells, isTidy};
 
 // A word into dst from k on, folded.
 pub fn put_folded(dst: &mut [u8], k: usize, word: &[u8])

@@ -8,7 +8,7 @@ ghost use Rattle.texts.specs.Text.{is};
 ghost use Rattle.records.specs.Chain.{chain};
 ghost use Rattle.slots_spec.specs.Slot.{entryOf};
 ghost use Rattle.store_spec.specs.Store.{next as nextOf};
-ghost use Rattle.store_spec.specs.Marks.{markOf, markAt};
+ghost use Rattle.store_spec.specs.Laws.Marks.{markOf, markAt};
 use crate::sound;
 
 // The mark of the key of the entry in a slot.

@@ -8,7 +8,7 @@ ghost use Rattle.texts.specs.Lists.{some};
 ghost use Rattle.records.specs.Records.{recordAt};
 ghost use Rattle.records.specs.Chain.{chain, endOf};
 ghost use Rattle.slots_spec.specs.Slot.{entryOf};
-ghost use Rattle.store_spec.specs.Marks.{markAt};
+ghost use Rattle.store_spec.specs.Laws.Marks.{markAt};
 ghost use Rattle.store_spec.specs.Store.{next as nextOf, used as usedOf, entryAt, isStoreLength, isWanted, sameKey, keysDiffer, walks as walksOf, isSound};
 use crate::marks;
 

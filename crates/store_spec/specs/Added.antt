@@ -17,10 +17,10 @@ use Rattle.slots_spec.specs.Slot.{Entry, Fits}
 use Rattle.store_spec.specs.Store.{next, last, used, slots, entryAt, entries, sameKey}
 use Rattle.store_spec.specs.Adding.{seek, cutOut, tied, placed, added, isFull}
 use Rattle.store_spec.specs.Sound.{Slot, Sound, entries-are}
-use Rattle.store_spec.specs.Sought.{Sought, none, found, sought}
+use Rattle.store_spec.specs.Laws.Sought.{Sought, none, found, sought}
 use Rattle.store_spec.specs.Result.{Added}
-use Rattle.store_spec.specs.New.{added-new, new-other}
-use Rattle.store_spec.specs.Known.{added-known, known-other}
+use Rattle.store_spec.specs.Laws.New.{added-new, new-other}
+use Rattle.store_spec.specs.Laws.Known.{added-known, known-other}
 
 -- what is written for a new key, and for a known one
 new-key : (b : List ℕ) (e : Entry) (p : ℕ) → next b p ≡ 0 → placed b e p ≡ put16 (tied b (used b + 1) e) 4 (used b + 1)

@@ -1,16 +1,7 @@
-pub mod New
-pub mod Found
-pub mod Placed
-pub mod Turns
-pub mod Result
-pub mod Marks
-pub mod Added
-pub mod Tied
-pub mod Sound
-pub mod Known
-pub mod Cut
-pub mod Keys
-pub mod Adding
-pub mod Bytes
+-- To believe: Store says what a store is, Adding how adding changes it, Sound the same as Store, of slots in order; Added, by Result, what adding leaves.
 pub mod Store
-pub mod Sought
+pub mod Adding
+pub mod Sound
+pub mod Result
+pub mod Added
+pub mod Laws

@@ -15,8 +15,8 @@ use Rattle.slots_spec.specs.Slot.{Entry}
 use Rattle.store_spec.specs.Store.{next, last, used, slots, entryAt, entries, isStoreLength}
 use Rattle.store_spec.specs.Adding.{adding}
 use Rattle.store_spec.specs.Sound.{Slot, Sound, entries-are}
-use Rattle.store_spec.specs.Bytes.{Kept}
-use Rattle.store_spec.specs.Keys.{keys-adding}
+use Rattle.store_spec.specs.Laws.Bytes.{Kept}
+use Rattle.store_spec.specs.Laws.Keys.{keys-adding}
 
 pub all-of : (P : ℕ → Type 0) (xs : List ℕ) → ((x : ℕ) → P x) → All P xs
 all-of P [] h = tt

@@ -5,7 +5,7 @@ ghost use Prim.Native.Nat.{_<_};
 ghost use lib.ListN.{getD};
 ghost use Rattle.texts.specs.Lists.{place};
 ghost use Rattle.texts.specs.Text.{folded, blank, is, same as equal, smaller as before, ascii, isWord, agree as agreeOf};
-ghost use Rattle.texts.specs.Largest.{larger as largerOf, largest as largestOf};
+ghost use Rattle.texts.specs.Laws.Largest.{larger as largerOf, largest as largestOf};
 
 // A byte as a size.
 pub fn wide(b: u8) -> usize

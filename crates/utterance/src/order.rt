@@ -3,7 +3,7 @@
 ghost use mathlib.Core.Path.{_≡_};
 ghost use Prim.Native.Nat.{_<_};
 ghost use Rattle.utterance_spec.specs.Sheet.{at, used as usedOf, items, isPlaced};
-ghost use Rattle.utterance_spec.specs.Turns.{isTied, lastPhone, isLast, isMet, isOrdered};
+ghost use Rattle.utterance_spec.specs.Laws.Turns.{isTied, lastPhone, isLast, isMet, isOrdered};
 use crate::inside::follow;
 use crate::inside::item;
 use crate::inside::kind;

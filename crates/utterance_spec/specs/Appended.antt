@@ -20,12 +20,12 @@ use Rattle.utterance_spec.specs.Sheet.{at, used, items, isSheetLength, r
 use Rattle.utterance_spec.specs.Sound.{Placed, Sound}
 use Rattle.utterance_spec.specs.Append.{headOr, size, numbered, placeOf, appended, isSaid}
 use Rattle.utterance_spec.specs.Read.{reading-is}
-use Rattle.utterance_spec.specs.Behind.{all-both, all-from}
-use Rattle.utterance_spec.specs.Walked.{word-kinds}
-use Rattle.utterance_spec.specs.Places.{all-phones, all-words, phone-kinds}
-use Rattle.utterance_spec.specs.Grown.{Grown, back-end, grown-items, grown-once, grown-full, grown-tree, grown-reads, grown-onwards, grown-backwards}
-use Rattle.utterance_spec.specs.Wrote.{said-parts, said-filled}
-use Rattle.utterance_spec.specs.Bytes.{length-appended, appended-kept, word-record, phone-record, appended-grown, appended-head, appended-old, appended-new}
+use Rattle.utterance_spec.specs.Laws.Behind.{all-both, all-from}
+use Rattle.utterance_spec.specs.Laws.Walked.{word-kinds}
+use Rattle.utterance_spec.specs.Laws.Places.{all-phones, all-words, phone-kinds}
+use Rattle.utterance_spec.specs.Laws.Grown.{Grown, back-end, grown-items, grown-once, grown-full, grown-tree, grown-reads, grown-onwards, grown-backwards}
+use Rattle.utterance_spec.specs.Laws.Wrote.{said-parts, said-filled}
+use Rattle.utterance_spec.specs.Laws.Bytes.{length-appended, appended-kept, word-record, phone-record, appended-grown, appended-head, appended-old, appended-new}
 
 -- what putting a word last on a sound sheet leaves
 pub record Appended (b c : List ℕ) (w : Word) (s : Sound b) : Type 0 where

@@ -18,9 +18,9 @@ use Rattle.items.specs.Item.{Item, itemOf, isClean, isPlain, isPhoneItem, isHea
 use Rattle.utterance_spec.specs.Tree.{WordAt, itemsAt, Tree}
 use Rattle.utterance_spec.specs.Sheet.{at, used, items, isSheetLength, after, isParent, isSibling, isFull, isChained, isPlaced, walks, order, isSound}
 use Rattle.utterance_spec.specs.Sound.{Placed, Sound}
-use Rattle.utterance_spec.specs.Parsed.{Good, parsed}
-use Rattle.utterance_spec.specs.Walked.{Leaf, walked}
-use Rattle.utterance_spec.specs.Chained.{chained, is-chained, full, is-full}
+use Rattle.utterance_spec.specs.Laws.Parsed.{Good, parsed}
+use Rattle.utterance_spec.specs.Laws.Walked.{Leaf, walked}
+use Rattle.utterance_spec.specs.Laws.Chained.{chained, is-chained, full, is-full}
 
 -- a phone has no children
 phone-leaf : (i : Item) → fits i ≡ true → i .kind ≡ 3 → (i .first ≡ 0) × (i .last ≡ 0)

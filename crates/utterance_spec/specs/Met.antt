@@ -16,7 +16,7 @@ use Rattle.items.specs.Item.{Item}
 use Rattle.utterance_spec.specs.Tree.{phonesAt, itemsAt, follow}
 use Rattle.utterance_spec.specs.Sheet.{at, used}
 use Rattle.utterance_spec.specs.Sound.{Placed, Sound}
-use Rattle.utterance_spec.specs.Chained.{phonesOf, phones-are}
+use Rattle.utterance_spec.specs.Laws.Chained.{phonesOf, phones-are}
 
 -- numbered 1 to n
 abbrev pub Within : ℕ → ℕ → Type 0

@@ -1,5 +1,5 @@
 -- `addenda::addenda_row` meets its contract: a row of the table is the quoted row, encoded. Assumes nothing.
-use Rattle.addenda.specs.Rows.{row-at}
+use Rattle.addenda.specs.Laws.Rows.{row-at}
 use borrow.Author.Needs.{needs}
 use Rattle.addenda.proofs.addenda_row.Statement.{statement}
 use Rattle.addenda.proofs.addenda_row.Tie as tie

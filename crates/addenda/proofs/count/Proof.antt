@@ -5,7 +5,7 @@ use mathlib.Core.List.{List}
 use lib.ListN.{getD}
 use borrow.Author.Needs.{needs}
 use native.Mathlib.Omega.{arith}
-use Rattle.addenda.specs.Rows.{row-count, row-few}
+use Rattle.addenda.specs.Laws.Rows.{row-count, row-few}
 use Rattle.addenda.proofs.count.Statement.{statement}
 use Rattle.addenda.proofs.count.Tie as tie
 

@@ -1,8 +1,8 @@
 -- `addenda::find` meets its contract: a word ruled out has no row; else no row passed is meant, so the rows left decide. Assumes nothing.
 use Rattle.addenda.specs.Rules.{addenda-count}
 use Rattle.addenda.specs.Find.{isMeant}
-use Rattle.addenda.specs.Rows.{row-meant}
-use Rattle.addenda.specs.Starts.{no-start}
+use Rattle.addenda.specs.Laws.Rows.{row-meant}
+use Rattle.addenda.specs.Laws.Starts.{no-start}
 use Rattle.addenda.specs.Addenda.{addenda, noAddendum}
 use Rattle.texts.specs.Lists.{place, place-turn, place-stop, place-end}
 use lib.ListN.{drop}

@@ -1,6 +1,6 @@
 -- `addenda::is_meant` meets its contract: each part of the test is the like part of the definition. Assumes nothing.
 use mathlib.Core.Path.{_∙_}
-use Rattle.addenda.specs.Rows.{isMeantBy}
+use Rattle.addenda.specs.Laws.Rows.{isMeantBy}
 use borrow.Author.Needs.{needs}
 use Rattle.addenda.proofs.is_meant.Statement.{statement}
 use Rattle.addenda.proofs.is_meant.Tie as tie

@@ -1,8 +1,8 @@
 -- `addenda::may_be_row` meets its contract: past each arm, the table has no word of that length with that first byte. Assumes nothing.
 use Rattle.addenda.specs.Addenda.{addenda}
-use Rattle.addenda.specs.Starts.{firstsOf, isStart, other-length}
+use Rattle.addenda.specs.Laws.Starts.{firstsOf, isStart, other-length}
 use Rattle.texts.specs.Choice.{never}
-use Rattle.texts.specs.Keys.{key-out}
+use Rattle.texts.specs.Laws.Keys.{key-out}
 use Rattle.texts.specs.Lists.{every, some}
 use Rattle.texts.specs.Text.{bytes}
 use mathlib.Core.Bool.{true}

@@ -1,8 +1,8 @@
 -- `addenda::may_be_sign` meets its contract: the table's words of one byte have no byte in the ranges ruled out. Assumes nothing.
 use Rattle.addenda.specs.Addenda.{addenda}
-use Rattle.addenda.specs.Starts.{firstsOf, isStart}
+use Rattle.addenda.specs.Laws.Starts.{firstsOf, isStart}
 use Rattle.texts.specs.Choice.{never}
-use Rattle.texts.specs.Keys.{range-out}
+use Rattle.texts.specs.Laws.Keys.{range-out}
 use Rattle.texts.specs.Lists.{every}
 use mathlib.Core.Bool.{true}
 use mathlib.Core.Path.{refl}

@@ -1,5 +1,5 @@
 -- `addenda::put_phones` meets its contract: after i phones, out is what pasting i cells leaves. Assumes nothing.
-use Rattle.addenda.specs.Rows.{row-count, row-few, row-short, row-phone}
+use Rattle.addenda.specs.Laws.Rows.{row-count, row-few, row-short, row-phone}
 use Rattle.addenda.specs.Addenda.{addenda, noAddendum}
 use Rattle.cells.specs.Cells.{text, cellsOf, length-cellsOf, cells-turn}
 use Rattle.records.specs.Records.{paste-front}

@@ -10,12 +10,12 @@ use mathlib.Core.List.{List}
 use lib.ListN.{length, drop}
 use Rattle.texts.specs.Text.{ascii, ascii-drop}
 use Rattle.lines.specs.Lines.{firstLine, afterLine, lines}
-use Rattle.lines.specs.Ascii.{ascii-line}
+use Rattle.lines.specs.Laws.Ascii.{ascii-line}
 use Rattle.store_spec.specs.Store.{isSound}
 use Rattle.store_spec.specs.Sound.{sound, is-sound}
 use Rattle.addtext_spec.specs.Line.{readLine, behindLine}
 use Rattle.addtext_spec.specs.Filling.{Filled, onward, filled}
-use Rattle.addtext_spec.specs.Turns.{filled-turn, filled-end}
+use Rattle.addtext_spec.specs.Laws.Turns.{filled-turn, filled-end}
 use Rattle.addtext_spec.specs.Grown.{low-line, line-sound}
 use Rattle.addtext.proofs.add_lines.Tie as tie
 

@@ -5,7 +5,7 @@ use native.Mathlib.Omega.{arith}
 use mathlib.Core.Path.{sym, _∙_}
 use Prim.Native.Nat.{_+_}
 use Rattle.cells.specs.Cells.{phonesOf, length-phonesOf}
-use Rattle.appending.specs.Putting.{word-tied}
+use Rattle.appending.specs.Laws.Putting.{word-tied}
 use Rattle.appending.proofs.append.Tie as tie
 
 last-requires : tie.Need-last-requires

@@ -5,7 +5,7 @@ use Prim.Native.Nat.{_≤_, _-_, _+_}
 use native.Mathlib.Omega.{arith}
 use mathlib.Core.Path.{_≡_}
 use lib.ListN.{length, drop}
-use Rattle.appending.specs.Grouped.{span, span-turn, span-stop, span-end}
+use Rattle.appending.specs.Laws.Grouped.{span, span-turn, span-stop, span-end}
 use Rattle.appending.proofs.end_of.Tie as tie
 
 abbrev Inv-loop : tie.InvT-loop

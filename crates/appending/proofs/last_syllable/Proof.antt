@@ -9,7 +9,7 @@ use Rattle.cells.specs.Cells.{phonesOf, length-phonesOf}
 use Rattle.utterance_spec.specs.Tree.{syllablesAt}
 use Rattle.utterance_spec.specs.Append.{sizeIn, numbered}
 use Rattle.utterance_spec.specs.Cuts.{grouped}
-use Rattle.appending.specs.Numbers.{Step, step, last-turn, grouped-end}
+use Rattle.appending.specs.Laws.Numbers.{Step, step, last-turn, grouped-end}
 use Rattle.appending.proofs.last_syllable.Tie as tie
 
 abbrev Inv-loop : tie.InvT-loop

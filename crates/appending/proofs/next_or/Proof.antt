@@ -2,7 +2,7 @@
 use Rattle.appending.proofs.next_or.Statement.{statement}
 use mathlib.Core.Path.{sym}
 use native.Mathlib.Omega.{arith}
-use Rattle.appending.specs.Numbers.{head-some, head-none}
+use Rattle.appending.specs.Laws.Numbers.{head-some, head-none}
 use Rattle.appending.proofs.next_or.Tie as tie
 
 returns : tie.Need-returns

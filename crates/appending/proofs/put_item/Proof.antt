@@ -2,7 +2,7 @@
 use borrow.Author.Needs.{needs}
 use Rattle.appending.proofs.put_item.Statement.{statement}
 use Rattle.items.specs.Item.{Item}
-use Rattle.appending.specs.Putting.{put-written}
+use Rattle.appending.specs.Laws.Putting.{put-written}
 use Rattle.appending.proofs.put_item.Tie as tie
 
 slice-aggregate-write : tie.Need-slice-aggregate-write

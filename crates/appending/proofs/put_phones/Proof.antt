@@ -8,7 +8,7 @@ use lib.ListN.{length, take, drop}
 use Rattle.texts.specs.Lists.{from}
 use Rattle.cells.specs.Cells.{phonesOf, length-phonesOf, phone-fits}
 use Rattle.utterance_spec.specs.Append.{phoneItems, putItems}
-use Rattle.appending.specs.Putting.{phones-turn, phones-end}
+use Rattle.appending.specs.Laws.Putting.{phones-turn, phones-end}
 use Rattle.appending.proofs.put_phones.Tie as tie
 
 abbrev Inv-loop : tie.InvT-loop

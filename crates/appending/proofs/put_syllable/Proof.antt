@@ -4,7 +4,7 @@ use Rattle.appending.proofs.put_syllable.Statement.{statement}
 use Prim.Native.Nat.{ℕ, _-_}
 use native.Mathlib.Omega.{arith}
 use mathlib.Core.Path.{_∙_}
-use Rattle.appending.specs.Putting.{syllable-written}
+use Rattle.appending.specs.Laws.Putting.{syllable-written}
 use Rattle.cells.specs.Cells.{phonesOf}
 use lib.ListN.{length, getD, take, drop}
 use Rattle.appending.proofs.put_syllable.Tie as tie

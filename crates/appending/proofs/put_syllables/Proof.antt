@@ -7,8 +7,8 @@ use lib.ListN.{length, drop}
 use Rattle.cells.specs.Cells.{phonesOf, length-phonesOf}
 use Rattle.utterance_spec.specs.Append.{sizeIn, putItems}
 use Rattle.utterance_spec.specs.Cuts.{grouped}
-use Rattle.appending.specs.Numbers.{Step, step}
-use Rattle.appending.specs.Putting.{syllablesFrom, syllables-turn, syllables-end}
+use Rattle.appending.specs.Laws.Numbers.{Step, step}
+use Rattle.appending.specs.Laws.Putting.{syllablesFrom, syllables-turn, syllables-end}
 use Rattle.appending.proofs.put_syllables.Tie as tie
 
 abbrev Inv-loop : tie.InvT-loop

@@ -4,7 +4,7 @@ use Rattle.appending.proofs.put_word.Statement.{statement}
 use native.Mathlib.Omega.{arith}
 use mathlib.Core.Path.{sym, _∙_}
 use Rattle.cells.specs.Cells.{phonesOf, length-phonesOf}
-use Rattle.appending.specs.Putting.{word-written}
+use Rattle.appending.specs.Laws.Putting.{word-written}
 use Rattle.appending.proofs.put_word.Tie as tie
 
 add-next-or : tie.Need-add-next-or

@@ -7,7 +7,7 @@ use lib.ListN.{length, drop}
 use Rattle.cells.specs.Cells.{phonesOf, length-phonesOf}
 use Rattle.utterance_spec.specs.Append.{sizeIn}
 use Rattle.utterance_spec.specs.Cuts.{grouped}
-use Rattle.appending.specs.Numbers.{Step, step, grouped-end}
+use Rattle.appending.specs.Laws.Numbers.{Step, step, grouped-end}
 use Rattle.appending.proofs.size.Tie as tie
 
 abbrev Inv-loop : tie.InvT-loop

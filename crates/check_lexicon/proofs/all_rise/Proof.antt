@@ -1,6 +1,6 @@
 -- `call::all_rise` meets its contract: the words passed don't fall, so the words left decide. Assumes nothing.
 use Rattle.compiled_spec.specs.Lexicon.{rises}
-use Rattle.compiled_spec.specs.Numbers.{below-turn, below-stop, below-end}
+use Rattle.compiled_spec.specs.Laws.Numbers.{below-turn, below-stop, below-end}
 use Rattle.texts.specs.Lists.{every, upTo}
 use borrow.Author.Tests.{not-true, not-false}
 use lib.ListN.{drop}

@@ -1,6 +1,6 @@
 -- `lexicon::find` meets its contract: the store, the addenda and the compiled entries, in that order. Assumes nothing.
 use Rattle.lexicon_spec.specs.Lookup.{find-runtime, find-row, find-compiled}
-use Rattle.store_spec.specs.Found.{tells, foundAt, found-none, found-some}
+use Rattle.store_spec.specs.Laws.Found.{tells, foundAt, found-none, found-some}
 use Rattle.store_spec.specs.Sound.{sound}
 use Rattle.store_spec.specs.Store.{isWanted, entries, entryAt}
 use Rattle.slots_spec.specs.Slot.{entryOf}

@@ -3,7 +3,7 @@ use Rattle.lexicon_spec.specs.Lookup.{fromCompiled}
 use Rattle.compiled_spec.specs.declared.Chosen.the-variants.{Entry}
 use Rattle.compiled_spec.specs.declared.Chosen.{Chosen}
 use Rattle.compiled_spec.specs.Lexicon.{lexicon-table, index-room}
-use Rattle.compiled_spec.specs.Below.{Below, below}
+use Rattle.compiled_spec.specs.Laws.Below.{Below, below}
 use Rattle.compiled_spec.specs.Search.{chosen}
 use Rattle.compiled_spec.specs.Entries.{count}
 use mathlib.Core.Path.{_≡_, sym, _∙_, subst}

@@ -4,7 +4,7 @@ use mathlib.Core.List.{List, [], _∷_}
 use native.Mathlib.Omega.{arith}
 use Prim.Native.Nat.{ℕ}
 use Rattle.phoneset.specs.Phones.{isVowel}
-use Rattle.phoneset.specs.Vowels.{two-bytes, vowel-three, vowel-other}
+use Rattle.phoneset.specs.Laws.Vowels.{two-bytes, vowel-three, vowel-other}
 use borrow.Author.Needs.{needs}
 use Rattle.phoneset.proofs.is_vowel.Statement.{statement}
 use Rattle.phoneset.proofs.is_vowel.Tie as tie

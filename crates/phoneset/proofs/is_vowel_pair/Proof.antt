@@ -5,10 +5,10 @@ use mathlib.Core.List.{List, [], _∷_, map}
 use Rattle.texts.specs.Text.{bytes}
 use native.Mathlib.Omega.{arith}
 use mathlib.Core.Path.{refl, sym, _∙_}
-use Rattle.texts.specs.Keys.{key-in, key-out}
+use Rattle.texts.specs.Laws.Keys.{key-in, key-out}
 use Rattle.texts.specs.Lists.{every, some}
 use Rattle.phoneset.specs.Phones.{phones}
-use Rattle.phoneset.specs.Vowels.{plus, vowels, ofLength, number, pairs, vowel-two}
+use Rattle.phoneset.specs.Laws.Vowels.{plus, vowels, ofLength, number, pairs, vowel-two}
 use Rattle.phoneset.proofs.is_vowel_pair.Statement.{statement}
 use Rattle.phoneset.proofs.is_vowel_pair.Tie as tie
 

@@ -7,7 +7,7 @@ use mathlib.Core.Path.{_≡_, sym, ap, _∙_}
 use mathlib.Core.List.{List}
 use lib.ListN.{length, length-append}
 use Rattle.phonestring.specs.PhoneString.{string}
-use Rattle.phonestring.specs.Turns.{gap, rest, rest-all, rest-stop, rest-end, count-turn, gap-short, text-short}
+use Rattle.phonestring.specs.Laws.Turns.{gap, rest, rest-all, rest-stop, rest-end, count-turn, gap-short, text-short}
 use Rattle.phonestring.proofs.count.Tie as tie
 
 abbrev Inv-loop : tie.InvT-loop

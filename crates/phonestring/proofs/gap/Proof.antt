@@ -1,6 +1,6 @@
 -- `phonestring::gap` meets its contract: behind item 0 there is no blank. Assumes nothing.
 use Rattle.phonestring.proofs.gap.Statement.{statement}
-use Rattle.phonestring.specs.Turns.{gap-first, gap-later}
+use Rattle.phonestring.specs.Laws.Turns.{gap-first, gap-later}
 use Rattle.phonestring.proofs.gap.Tie as tie
 
 returns : tie.Need-returns

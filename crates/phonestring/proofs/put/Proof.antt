@@ -3,7 +3,7 @@ use borrow.Author.Needs.{needs}
 use Rattle.phonestring.proofs.put.Statement.{statement}
 use native.Mathlib.Omega.{arith}
 use mathlib.Core.Path.{_∙_}
-use Rattle.phonestring.specs.Turns.{length-first, length-later, paste-first, paste-later}
+use Rattle.phonestring.specs.Laws.Turns.{length-first, length-later, paste-first, paste-later}
 use lib.ListN.{length-set}
 use Rattle.phonestring.proofs.put.Tie as tie
 

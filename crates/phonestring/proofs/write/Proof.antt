@@ -9,7 +9,7 @@ use lib.ListN.{length, drop}
 use lib.Seq.{paste}
 use Rattle.records.specs.Records.{paste-front}
 use Rattle.phonestring.specs.PhoneString.{string}
-use Rattle.phonestring.specs.Turns.{rest, rest-all, rest-stop, rest-end, count-turn, write-turn, paste-none}
+use Rattle.phonestring.specs.Laws.Turns.{rest, rest-all, rest-stop, rest-end, count-turn, write-turn, paste-none}
 use Rattle.phonestring.proofs.write.Tie as tie
 
 abbrev Inv-loop : tie.InvT-loop

@@ -5,7 +5,7 @@ use native.Mathlib.Omega.{arith}
 use mathlib.Core.Path.{sym, ap, _∙_}
 use lib.Dec.{eqb}
 use lib.ListN.{length}
-use Rattle.records.specs.Zeros.{ZeroBelow, zeros-turn, zeros-stop, zeros-end}
+use Rattle.records.specs.Laws.Zeros.{ZeroBelow, zeros-turn, zeros-stop, zeros-end}
 use borrow.Author.Needs.{needs}
 use Rattle.records.proofs.are_eights_zero.Statement.{statement}
 use Rattle.records.proofs.are_eights_zero.Tie as tie

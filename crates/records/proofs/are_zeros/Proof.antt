@@ -2,7 +2,7 @@
 use Prim.Native.Nat.{ℕ}
 use mathlib.Core.Path.{sym, ap, _∙_}
 use lib.Dec.{eqb}
-use Rattle.texts.specs.Largest.{zeros-largest}
+use Rattle.texts.specs.Laws.Largest.{zeros-largest}
 use borrow.Author.Needs.{needs}
 use Rattle.records.proofs.are_zeros.Statement.{statement}
 use Rattle.records.proofs.are_zeros.Tie as tie

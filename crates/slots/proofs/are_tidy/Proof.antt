@@ -1,5 +1,5 @@
 -- `slots::are_tidy` meets its contract: the cells passed are tidy, so those left decide. Assumes nothing.
-use Rattle.slots_spec.specs.Parts.{isTidy}
+use Rattle.slots_spec.specs.Laws.Parts.{isTidy}
 use Rattle.records.specs.Records.{records, length-records, part-record}
 use Rattle.texts.specs.Lists.{every, every-turn, every-stop, every-end}
 use borrow.Author.Tests.{not-true, not-false}

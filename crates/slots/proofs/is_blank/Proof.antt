@@ -1,5 +1,5 @@
 -- `slots::is_blank` meets its contract: the first of the three parts that is not zero decides. Assumes nothing.
-use Rattle.slots_spec.specs.Parts.{isBlank}
+use Rattle.slots_spec.specs.Laws.Parts.{isBlank}
 use Rattle.texts.specs.Lists.{every}
 use Rattle.texts.specs.Text.{is}
 use borrow.Author.Tests.{not-true, not-false}

@@ -1,6 +1,6 @@
 -- `slots::is_key` meets its contract: each return is decided by the first test of the definition that fails. Assumes nothing.
 use Rattle.slots_spec.specs.Slot.{entryOf, isFolded}
-use Rattle.slots_spec.specs.Parts.{isKey}
+use Rattle.slots_spec.specs.Laws.Parts.{isKey}
 use Rattle.texts.specs.Text.{low, isWord}
 use borrow.Author.Tests.{lt-ltb, le-ltb, not-true, not-false}
 use mathlib.Core.Bool.{true, false}

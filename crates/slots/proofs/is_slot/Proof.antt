@@ -1,6 +1,6 @@
 -- `slots::is_slot` meets its contract: each return is decided by the first part of the slot that fails. Assumes nothing.
 use Rattle.slots_spec.specs.Slot.{isSlot}
-use Rattle.slots_spec.specs.Parts.{isKey, isBlank, usedCells, isTidy, slot-parts}
+use Rattle.slots_spec.specs.Laws.Parts.{isKey, isBlank, usedCells, isTidy, slot-parts}
 use Rattle.records.specs.Records.{records}
 use Rattle.texts.specs.Lists.{every}
 use Rattle.texts.specs.Text.{ascii}

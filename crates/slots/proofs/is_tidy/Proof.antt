@@ -1,5 +1,5 @@
 -- `slots::is_tidy` meets its contract: a length that fits leaves the bytes past the text to decide. Assumes nothing.
-use Rattle.slots_spec.specs.Parts.{isTidy}
+use Rattle.slots_spec.specs.Laws.Parts.{isTidy}
 use Rattle.records.specs.Records.{part-from}
 use Rattle.texts.specs.Lists.{every}
 use Rattle.texts.specs.Text.{is}

@@ -1,6 +1,6 @@
 -- `slots::phones` meets its contract: the cells that are used. Assumes nothing.
 use Rattle.slots_spec.specs.Slot.{entryOf}
-use Rattle.slots_spec.specs.Parts.{usedCells}
+use Rattle.slots_spec.specs.Laws.Parts.{usedCells}
 use Rattle.cells.specs.Cells.{phonesOf}
 use mathlib.Core.Path.{ap}
 use borrow.Author.Needs.{needs}

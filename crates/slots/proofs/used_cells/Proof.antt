@@ -1,5 +1,5 @@
 -- `slots::used_cells` meets its contract: as many cells from 64 on as byte 51 tells. Assumes nothing.
-use Rattle.slots_spec.specs.Parts.{usedCells}
+use Rattle.slots_spec.specs.Laws.Parts.{usedCells}
 use mathlib.Core.Path.{_∙_}
 use borrow.Author.Needs.{needs}
 use Rattle.slots.proofs.used_cells.Statement.{statement}

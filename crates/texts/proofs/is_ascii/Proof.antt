@@ -1,5 +1,5 @@
 -- `texts::is_ascii` meets its contract: every byte is below 128 exactly if the largest is. Assumes nothing.
-use Rattle.texts.specs.Largest.{ascii-largest}
+use Rattle.texts.specs.Laws.Largest.{ascii-largest}
 use borrow.Author.Needs.{needs}
 use Rattle.texts.proofs.is_ascii.Statement.{statement}
 use Rattle.texts.proofs.is_ascii.Tie as tie

@@ -1,7 +1,7 @@
 -- `texts::larger` meets its contract: the test is the definition's. Assumes nothing.
 use native.Mathlib.Omega.{arith}
 use mathlib.Core.Path.{sym}
-use Rattle.texts.specs.Largest.{larger-left, larger-right}
+use Rattle.texts.specs.Laws.Largest.{larger-left, larger-right}
 use Rattle.texts.proofs.larger.Statement.{statement}
 use Rattle.texts.proofs.larger.Tie as tie
 

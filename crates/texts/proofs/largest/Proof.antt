@@ -3,7 +3,7 @@ use Prim.Native.Nat.{_≤_, _-_}
 use native.Mathlib.Omega.{arith}
 use mathlib.Core.Path.{_≡_, sym, _∙_}
 use lib.ListN.{length, drop}
-use Rattle.texts.specs.Largest.{larger, largest, largest-start, largest-turn, largest-end}
+use Rattle.texts.specs.Laws.Largest.{larger, largest, largest-start, largest-turn, largest-end}
 use borrow.Author.Needs.{needs}
 use Rattle.texts.proofs.largest.Statement.{statement}
 use Rattle.texts.proofs.largest.Tie as tie

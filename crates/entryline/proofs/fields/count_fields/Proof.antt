@@ -1,5 +1,5 @@
 -- `fields::count_fields` meets its contract: n are passed, and those left are to be counted. Assumes nothing.
-use Rattle.lines.specs.Turns.{fields-none, fields-more, field-forward, fields-past}
+use Rattle.lines.specs.Laws.Turns.{fields-none, fields-more, field-forward, fields-past}
 use Rattle.lines.specs.Lines.{isEmpty, fields}
 use lib.ListN.{length, drop}
 use mathlib.Core.List.{List}

@@ -1,6 +1,6 @@
 -- `line::add_entry` meets its contract: each return is decided by the first test of the definition that fails. Assumes nothing.
 use Rattle.addtext_spec.specs.Line.{lineEntry, judged, onOutcome}
-use Rattle.addtext_spec.specs.Phones.{may-phones}
+use Rattle.addtext_spec.specs.Laws.Phones.{may-phones}
 use Rattle.lexicon_spec.specs.Adding.{mayAdd}
 use Rattle.store_spec.specs.Adding.{isFull, kept}
 use Rattle.lines.specs.Lines.{fields}

@@ -11,8 +11,8 @@ use Rattle.cells.specs.Cells.{phonesOf, cellsOf}
 use Rattle.onsets.specs.Onsets.{onsets}
 use Rattle.syllabify.specs.Syllables.{marks}
 use Rattle.pipeline_spec.specs.Cutting.{cutsOf}
-use Rattle.pipeline_spec.specs.BareCells.{bareOf, length-bare, bares-fit, front-phones}
-use Rattle.pipeline_spec.specs.CutLaws.{cuts-front, length-own}
+use Rattle.pipeline_spec.specs.Laws.BareCells.{bareOf, length-bare, bares-fit, front-phones}
+use Rattle.pipeline_spec.specs.Laws.Cuts.{cuts-front, length-own}
 use Rattle.pipeline.proofs.cutting.prepare.Tie as tie
 
 front-is : (c : tie.After-head) → c .head .result .now ≡ take (16 * (length (c .before .before .before .before .before .before .before .before .before .before .args .phones .now) / 16)) (cellsOf (bareOf (c .before .before .before .before .before .before .before .before .before .before .args .phones .now)) ++ drop (16 * (length (c .before .before .before .before .before .before .before .before .before .before .args .phones .now) / 16)) (c .before .before .before .before .before .before .before .before .before .before .args .bare .now))

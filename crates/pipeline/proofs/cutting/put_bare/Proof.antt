@@ -4,7 +4,7 @@ use Rattle.pipeline.proofs.cutting.put_bare.Statement.{statement}
 use Rattle.cells.specs.Cells.{cellsOf, cell, cells-turn, cells-front}
 use Rattle.phoneset.specs.Stress.{digits, bare}
 use Rattle.records.specs.Records.{putRecord}
-use Rattle.pipeline_spec.specs.BareCells.{bareOf, length-bare, bare-at, bares-fit}
+use Rattle.pipeline_spec.specs.Laws.BareCells.{bareOf, length-bare, bare-at, bares-fit}
 use native.Mathlib.Nat.{zero-add}
 use lib.Seq.{paste, paste-zero}
 use lib.ListN.{length, getD, drop}

@@ -9,7 +9,7 @@ use lib.ListN.{length, drop, take, length-set}
 use Rattle.cells.specs.Cells.{phonesOf, length-phonesOf}
 use Rattle.syllabify.proofs.Written.{written-more, untouched-more, written-all}
 use Rattle.pipeline_spec.specs.Cutting.{stressed, cutsOf}
-use Rattle.pipeline_spec.specs.CutLaws.{cuts-turn, cuts-end}
+use Rattle.pipeline_spec.specs.Laws.Cuts.{cuts-turn, cuts-end}
 use Rattle.pipeline.proofs.cutting.put_cuts.Tie as tie
 
 abbrev Inv-loop : tie.InvT-loop

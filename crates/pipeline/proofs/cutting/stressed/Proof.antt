@@ -1,7 +1,7 @@
 -- `pipeline::cutting::stressed` meets its contract: a stress that was split off is never 0. Assumes nothing.
 use borrow.Author.Needs.{needs}
 use Rattle.pipeline.proofs.cutting.stressed.Statement.{statement}
-use Rattle.pipeline_spec.specs.CutLaws.{stress-own, stress-kept}
+use Rattle.pipeline_spec.specs.Laws.Cuts.{stress-own, stress-kept}
 use mathlib.Core.Path.{sym, _∙_}
 use Rattle.pipeline.proofs.cutting.stressed.Tie as tie
 

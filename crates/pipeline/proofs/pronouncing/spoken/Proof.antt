@@ -13,7 +13,7 @@ use denote.Enum.Declared.{tagOf}
 use Rattle.answers.specs.declared.Looked.{Looked}
 use Rattle.answers.specs.declared.Looked.the-variants.{Refused, Nothing, Found}
 use Rattle.lts.specs.Call.{toldPhones, outPhones}
-use Rattle.pipeline_spec.specs.ChosenSource.{toldBehind, roomBehind}
+use Rattle.pipeline_spec.specs.Laws.ChosenSource.{toldBehind, roomBehind}
 use Rattle.pipeline.proofs.pronouncing.spoken.Tie as tie
 
 no-source : (a : Looked) (o : Option (List (List ℕ))) (room : List ℕ) → OneOf (0 ∷ 1 ∷ []) (tagOf looked.the-type a) → (toldPhones o room ≡ toldBehind a o room) × (outPhones o room ≡ roomBehind a o room)

@@ -14,7 +14,7 @@ use Rattle.utterance_spec.specs.Append.{size, sizeIn, appended}
 use Rattle.utterance_spec.specs.Decided.{sound}
 use Rattle.utterance_spec.specs.Appended.{few, last-word-in, last-phone-in}
 use Rattle.pipeline_spec.specs.Pronounced.{said}
-use Rattle.pipeline_spec.specs.Handed.{Handed, handed}
+use Rattle.pipeline_spec.specs.Laws.Handed.{Handed, handed}
 use Rattle.pipeline.proofs.saying.put_cut.Tie as tie
 
 given : (c : tie.After-head2) → Handed (c .before .before .before .before .before .before .before .before .before .before .before .before .before .before .before .before .before .before .before .before .args .phones .now) (c .before .before .head .result .now) (c .head2 .result .now)

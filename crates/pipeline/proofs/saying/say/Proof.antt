@@ -10,9 +10,9 @@ use Rattle.store_spec.specs.Store.{entries}
 use Rattle.store_spec.specs.Sound.{sound}
 use Rattle.answers.specs.Told.{toldPredicted, accepted}
 use Rattle.pipeline_spec.specs.Pronounced.{pronounced, phones}
-use Rattle.pipeline_spec.specs.Sources.{entries-fit}
-use Rattle.pipeline_spec.specs.Fits.{pronounced-fits}
-use Rattle.pipeline_spec.specs.Outcome.{pronounced-real, said-refused, said-phones, phones-few}
+use Rattle.pipeline_spec.specs.Laws.Sources.{entries-fit}
+use Rattle.pipeline_spec.specs.Laws.Fits.{pronounced-fits}
+use Rattle.pipeline_spec.specs.Laws.Outcome.{pronounced-real, said-refused, said-phones, phones-few}
 use Rattle.texts.specs.Text.{isPhone}
 use Rattle.texts.specs.Lists.{every}
 use mathlib.Core.Bool.{true}

@@ -1,6 +1,6 @@
 -- `store::chain::add` meets its contract: behind the slot that the search tells stands the key's entry, or nothing. Assumes nothing.
-use Rattle.store_spec.specs.Placed.{at, full-new, kept-new, full-known, kept-known}
-use Rattle.store_spec.specs.Cut.{last-cut}
+use Rattle.store_spec.specs.Laws.Placed.{at, full-new, kept-new, full-known, kept-known}
+use Rattle.store_spec.specs.Laws.Cut.{last-cut}
 use Rattle.store_spec.specs.Result.{few, last-within}
 use Rattle.store_spec.specs.Sound.{Sound, sound}
 use Rattle.store_spec.specs.Adding.{seek, kept, entryFor}

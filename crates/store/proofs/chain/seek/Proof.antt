@@ -2,7 +2,7 @@
 use Prim.Native.Nat.{_<_}
 use native.Mathlib.Omega.{arith}
 use mathlib.Core.Path.{_≡_, refl, sym, _∙_}
-use Rattle.store_spec.specs.Turns.{seek-turn, seek-hit, seek-stop, seek-end}
+use Rattle.store_spec.specs.Laws.Turns.{seek-turn, seek-hit, seek-stop, seek-end}
 use Rattle.store_spec.specs.Adding.{seek}
 use Rattle.store_spec.specs.Store.{entryAt, isWanted}
 use borrow.Author.Needs.{needs}

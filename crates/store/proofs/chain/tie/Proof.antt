@@ -4,7 +4,7 @@ use mathlib.Core.List.{map}
 use Rattle.texts.specs.Text.{folded}
 use Rattle.cells.specs.Cells.{phonesOf}
 use Rattle.slots_spec.specs.Slot.{Entry}
-use Rattle.store_spec.specs.Turns.{tied-written}
+use Rattle.store_spec.specs.Laws.Turns.{tied-written}
 use borrow.Author.Needs.{needs}
 use Rattle.store.proofs.chain.tie.Statement.{statement}
 use Rattle.store.proofs.chain.tie.Tie as tie

@@ -7,7 +7,7 @@ use mathlib.Core.Logic.{inl, inr}
 use lib.ListN.{length}
 use Rattle.texts.specs.Lists.{some}
 use Rattle.texts.specs.Text.{is}
-use Rattle.store_spec.specs.Marks.{someLeft, some-met, some-passed, some-left}
+use Rattle.store_spec.specs.Laws.Marks.{someLeft, some-met, some-passed, some-left}
 use borrow.Author.Needs.{needs}
 use Rattle.store.proofs.marks.has_mark.Statement.{statement}
 use Rattle.store.proofs.marks.has_mark.Tie as tie

@@ -4,7 +4,7 @@ use native.Mathlib.Omega.{arith}
 use mathlib.Core.Path.{_≡_, sym, _∙_}
 use lib.ListN.{length, drop}
 use Rattle.slots_spec.specs.Slot.{entryOf}
-use Rattle.store_spec.specs.Marks.{mixed, markOf, mixed-turn, mixed-end}
+use Rattle.store_spec.specs.Laws.Marks.{mixed, markOf, mixed-turn, mixed-end}
 use borrow.Author.Needs.{needs}
 use Rattle.store.proofs.marks.mark.Statement.{statement}
 use Rattle.store.proofs.marks.mark.Tie as tie

@@ -7,7 +7,7 @@ use lib.ListN.{length, take, length-set}
 use Rattle.records.specs.Chain.{chain, chain-stop, chain-end}
 use Rattle.slots_spec.specs.Slot.{entryOf}
 use Rattle.store_spec.specs.Store.{next, entryAt}
-use Rattle.store_spec.specs.Marks.{markOf, markAt, marked-turn, marked-end}
+use Rattle.store_spec.specs.Laws.Marks.{markOf, markAt, marked-turn, marked-end}
 use borrow.Author.Needs.{needs}
 use Rattle.store.proofs.marks.put_marks.Statement.{statement}
 use Rattle.store.proofs.marks.put_marks.Tie as tie

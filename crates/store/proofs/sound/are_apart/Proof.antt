@@ -6,9 +6,9 @@ use mathlib.Core.List.{map}
 use lib.ListN.{length, getD, drop}
 use Rattle.records.specs.Records.{part-from}
 use Rattle.records.specs.Chain.{chain}
-use Rattle.store_spec.specs.Turns.{keys-turn, keys-hit, keys-stop, keys-end}
+use Rattle.store_spec.specs.Laws.Turns.{keys-turn, keys-hit, keys-stop, keys-end}
 use Rattle.store_spec.specs.Store.{next, entryAt, keysDiffer}
-use Rattle.store_spec.specs.Marks.{markAt, marks-turn}
+use Rattle.store_spec.specs.Laws.Marks.{markAt, marks-turn}
 use borrow.Author.Needs.{needs}
 use Rattle.store.proofs.sound.are_apart.Statement.{statement}
 use Rattle.store.proofs.sound.are_apart.Tie as tie

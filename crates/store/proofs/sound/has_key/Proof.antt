@@ -5,7 +5,7 @@ use mathlib.Core.Path.{_≡_, refl, sym, _∙_}
 use mathlib.Core.List.{map}
 use Rattle.records.specs.Chain.{chain}
 use Rattle.texts.specs.Lists.{some}
-use Rattle.store_spec.specs.Turns.{has-turn, has-hit, has-stop, has-end}
+use Rattle.store_spec.specs.Laws.Turns.{has-turn, has-hit, has-stop, has-end}
 use Rattle.store_spec.specs.Store.{next, entryAt, sameKey}
 use borrow.Author.Needs.{needs}
 use Rattle.store.proofs.sound.has_key.Statement.{statement}

@@ -7,7 +7,7 @@ use Rattle.texts.specs.Lists.{some}
 use Rattle.texts.specs.Text.{is}
 use Rattle.records.specs.Chain.{chain}
 use Rattle.store_spec.specs.Store.{next}
-use Rattle.store_spec.specs.Marks.{markAt, unmarked}
+use Rattle.store_spec.specs.Laws.Marks.{markAt, unmarked}
 use borrow.Author.Needs.{needs}
 use Rattle.store.proofs.sound.is_repeated.Statement.{statement}
 use Rattle.store.proofs.sound.is_repeated.Tie as tie

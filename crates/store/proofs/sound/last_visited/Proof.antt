@@ -3,7 +3,7 @@ use Prim.Native.Nat.{_<_}
 use native.Mathlib.Omega.{arith}
 use mathlib.Core.Path.{_≡_, refl, sym, _∙_}
 use Rattle.records.specs.Chain.{chain, endOf}
-use Rattle.store_spec.specs.Turns.{end-turn, end-stop, end-end}
+use Rattle.store_spec.specs.Laws.Turns.{end-turn, end-stop, end-end}
 use Rattle.store_spec.specs.Store.{next}
 use borrow.Author.Needs.{needs}
 use Rattle.store.proofs.sound.last_visited.Statement.{statement}

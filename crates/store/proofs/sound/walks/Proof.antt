@@ -9,7 +9,7 @@ use lib.ListN.{length}
 use lib.Dec.{eqb}
 use Rattle.slots_spec.specs.Slot.{isSlot}
 use Rattle.records.specs.Records.{recordAt}
-use Rattle.store_spec.specs.Turns.{length-slotAt, walks-turn, walks-short, walks-past, walks-stop, walks-end}
+use Rattle.store_spec.specs.Laws.Turns.{length-slotAt, walks-turn, walks-short, walks-past, walks-stop, walks-end}
 use Rattle.store_spec.specs.Store.{walks}
 use borrow.Author.Needs.{needs}
 use Rattle.store.proofs.sound.walks.Statement.{statement}

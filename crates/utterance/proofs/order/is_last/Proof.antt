@@ -2,7 +2,7 @@
 use borrow.Author.Needs.{needs}
 use Rattle.utterance.proofs.order.is_last.Statement.{statement}
 use borrow.Author.Tests.{eq-eqb, ne-eqb}
-use Rattle.utterance_spec.specs.Turns.{isLast}
+use Rattle.utterance_spec.specs.Laws.Turns.{isLast}
 use Rattle.utterance.proofs.order.is_last.Tie as tie
 
 follow-requires : tie.Need-follow-requires

@@ -6,7 +6,7 @@ use borrow.Author.Tests.{not-true, not-false}
 use mathlib.Core.Path.{_≡_, sym, _∙_}
 use mathlib.Core.Bool.{true}
 use Rattle.utterance_spec.specs.Sheet.{items, isPlaced}
-use Rattle.utterance_spec.specs.Turns.{isMet, placed-inside}
+use Rattle.utterance_spec.specs.Laws.Turns.{isMet, placed-inside}
 use Rattle.utterance.proofs.order.is_met.Tie as tie
 
 well-placed : (c : tie.Else1) → isPlaced (c .before .before .before .args .sheet .now) (c .before .before .before .args .x) ≡ true

@@ -7,7 +7,7 @@ use native.Mathlib.Omega.{arith}
 use mathlib.Core.Path.{_≡_, sym, ap, _∙_}
 use mathlib.Core.Bool.{true}
 use Rattle.utterance_spec.specs.Sheet.{at, used, items}
-use Rattle.utterance_spec.specs.Turns.{isMet, isOrdered, ordered-turn, ordered-stop, ordered-end, met-inside, last-inside}
+use Rattle.utterance_spec.specs.Laws.Turns.{isMet, isOrdered, ordered-turn, ordered-stop, ordered-end, met-inside, last-inside}
 use Rattle.utterance.proofs.order.is_ordered.Tie as tie
 
 abbrev Inv-loop : tie.InvT-loop

@@ -12,7 +12,7 @@ use lib.ListN.{length}
 use Rattle.records.specs.Records.{recordAt}
 use Rattle.items.specs.Item.{isItem}
 use Rattle.utterance_spec.specs.Sheet.{used, isPlaced}
-use Rattle.utterance_spec.specs.Turns.{length-itemAt}
+use Rattle.utterance_spec.specs.Laws.Turns.{length-itemAt}
 use Rattle.utterance.proofs.order.is_placed.Tie as tie
 
 front : (c : tie.Else3) → (not (eqb (c .before .before .before .before .before .before .before .args .i) 0) && leb (c .before .before .before .before .before .before .before .args .i) (used (c .before .before .before .before .before .before .before .args .sheet .now)) && isItem (recordAt 64 (c .before .before .before .before .before .before .before .args .sheet .now) (c .before .before .before .before .before .before .before .args .i))) ≡ true

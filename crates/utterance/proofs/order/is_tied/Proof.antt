@@ -2,7 +2,7 @@
 use borrow.Author.Needs.{needs}
 use Rattle.utterance.proofs.order.is_tied.Statement.{statement}
 use borrow.Author.Tests.{eq-eqb, ne-eqb}
-use Rattle.utterance_spec.specs.Turns.{isTied}
+use Rattle.utterance_spec.specs.Laws.Turns.{isTied}
 use Rattle.utterance.proofs.order.is_tied.Tie as tie
 
 kind-requires : tie.Need-kind-requires

@@ -2,7 +2,7 @@
 use borrow.Author.Needs.{needs}
 use Rattle.utterance.proofs.order.last_phone.Statement.{statement}
 use borrow.Author.Tests.{eq-eqb, ne-eqb}
-use Rattle.utterance_spec.specs.Turns.{lastPhone}
+use Rattle.utterance_spec.specs.Laws.Turns.{lastPhone}
 use Rattle.utterance.proofs.order.last_phone.Tie as tie
 
 kind-requires : tie.Need-kind-requires

@@ -13,7 +13,7 @@ use Rattle.texts.specs.Choice.{both-true}
 use Rattle.records.specs.Records.{recordAt}
 use Rattle.items.specs.Item.{isHead}
 use Rattle.utterance_spec.specs.Sheet.{at, used, items, isSheetLength, isParent, isSound}
-use Rattle.utterance_spec.specs.Turns.{length-itemAt, ordered-sound}
+use Rattle.utterance_spec.specs.Laws.Turns.{length-itemAt, ordered-sound}
 use Rattle.utterance.proofs.sound.is_sound.Tie as tie
 
 fitting : (c : tie.Else1) → isSheetLength (length (c .before .before .before .args .sheet .now)) ≡ true

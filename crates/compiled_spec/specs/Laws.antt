@@ -1,0 +1,4 @@
+-- Laws that only proofs use.
+pub mod Below
+pub mod Numbers
+pub mod Order

@@ -1,0 +1,58 @@
+-- What is pronounced fits: each phone has at most 15 bytes, all below 128; a digit of stress is "0" or "1".
+-- Assumes nothing.
+use Prim.Native.Nat.{ℕ}
+use mathlib.Core.Path.{_≡_, refl, sym, subst}
+use mathlib.Core.Bool.{Bool, true, false, _||_}
+use mathlib.Core.List.{List}
+use mathlib.Core.Option.{Option, none, some}
+use lib.Dec.{eqb, ltb}
+use lib.ListN.{length}
+use Rattle.texts.specs.Choice.{cases, never}
+use Rattle.texts.specs.Lists.{every, some as someOf}
+use Rattle.texts.specs.Text.{isPhone}
+use Rattle.phoneset.specs.Stress.{digits, lastByte, isStressed, stress}
+use Rattle.slots_spec.specs.Slot.{Entry, fits}
+use Rattle.lts.specs.Letters.{letters, isTrees, trees-table}
+use Rattle.compiled_spec.specs.Lexicon.{isLexicon, lexicon-table}
+use Rattle.lexicon_spec.specs.Lookup.{Finding, nothing, damaged, found, find, wantedTag}
+use Rattle.pipeline_spec.specs.Pronounced.{Sections, Spoken, barred, phones, onFinding, pronounced}
+use Rattle.pipeline_spec.specs.Laws.Sources.{Fit, AreFit, find-fit, letters-fit}
+
+-- a stress byte
+unfoldable pub isStress : ℕ → Bool
+isStress n = eqb n 48 || eqb n 49
+
+one-of : (n : ℕ) → someOf (eqb n) digits ≡ true → isStress n ≡ true
+unfolding isStress someOf
+one-of n h = cases (eqb n 48) (λ e. rw e) (λ e. cases (eqb n 49) (λ f. rw (e, f)) (λ f. let z : false ≡ true = rw (e, f) at h in never false z refl))
+
+pub digit : (p : List ℕ) → isStressed digits p ≡ true → isStress (stress digits p) ≡ true
+unfolding stress
+digit p h = rw h (one-of (lastByte p) (unfold isStressed in h))
+
+-- what was pronounced
+abbrev Fits : Spoken → Type 0
+Fits (barred n) = Unit {0}
+Fits (phones ps) = every isPhone ps ≡ true
+
+letters-spoken : (o : Option (List (List ℕ))) → AreFit o → Fits (onFinding nothing o)
+letters-spoken none h = tt
+letters-spoken (some ps) h = h
+
+-- a refused lookup is never sent to the letter trees
+refused-lookup : (o : Option (List (List ℕ))) → onFinding damaged o ≡ barred 6
+refused-lookup o = refl
+
+finding-spoken : (f : Finding) (o : Option (List (List ℕ))) → Fit f → AreFit o → Fits (onFinding f o)
+finding-spoken nothing o h k = letters-spoken o k
+finding-spoken damaged o h k = subst Fits (sym (refused-lookup o)) tt
+finding-spoken (found s ps) o h k = cases (ltb 96 (length ps)) (λ e. rw e tt) (λ e. rw e h)
+
+module _ (c : Sections) (es : List Entry) (word tag : List ℕ) (h : every fits es ≡ true) (lexicon : isLexicon (c .lexPhones) (c .lexIndex) ≡ true) (trees : isTrees (c .ltsPhones) (c .ltsIndex) (c .ltsModel) ≡ true) where
+  pub pronounced-fits : (ps : List (List ℕ)) → pronounced c es word tag ≡ phones ps → every isPhone ps ≡ true
+  unfolding pronounced
+  pronounced-fits ps e =
+      subst Fits e
+      (finding-spoken (find es (c .lexPhones) (c .lexIndex) (c .lexData) word (wantedTag tag)) (letters (c .ltsPhones) (c .ltsIndex) (c .ltsModel) word)
+      (find-fit es (c .lexPhones) (c .lexIndex) (c .lexData) word (wantedTag tag) h (lexicon-table (c .lexPhones) (c .lexIndex) lexicon))
+      (letters-fit (c .ltsPhones) (c .ltsIndex) (c .ltsModel) (trees-table (c .ltsPhones) (c .ltsIndex) (c .ltsModel) trees) word))
