@@ -1,8 +1,8 @@
 -- An accepted add entry leaves a sound store whose entries are the old ones without that key and then the new one.
 -- Assumes nothing.
-use Prim.Native.Nat.{ℕ, _/_, _<_}
+use Prim.Native.Nat.{ℕ, _/_}
 use native.Mathlib.Omega.{arith}
-use mathlib.Core.Path.{_≡_, ap}
+use mathlib.Core.Path.{_≡_}
 use mathlib.Core.Bool.{true, false, _&&_}
 use mathlib.Core.List.{List}
 use lib.Dec.{ltb}
@@ -18,15 +18,12 @@ use Rattle.store_spec.specs.Adding.{isFull}
 use Rattle.store_spec.specs.Sound.{Sound, sound}
 use Rattle.store_spec.specs.Result.{Added}
 use Rattle.store_spec.specs.Added.{room}
-use Rattle.answers.specs.declared.Answer.{Answer}
-use Rattle.answers.specs.Told.{refused, accepted}
+use Rattle.answers.specs.declared.Refusal.the-variants.{Section, Unsound, Text, UnknownPhone, Phones, Full}
+use Rattle.answers.specs.Told.{accepted}
+use Rattle.answers.specs.Laws.Numbers.{never-accepted}
 use Rattle.lexicon_spec.specs.Adding.{newEntry, mayAddAll}
 use Rattle.lexicon_spec.specs.Laws.Fitting.{new-fits}
 use Rattle.add_entry.specs.AddEntry.{addEntry, storeAfter}
-
--- an answer that is both a refusal and accepted is none
-refusal-never : {C : Type 0} (n : ℕ) → 0 < n → refused n 0 ≡ accepted 0 0 → C
-refusal-never n h e = let z : n ≡ 0 = ap (λ (a : Answer). a .refusal) e in absurd (omega arith)
 
 -- what the tests say where add entry is accepted
 pub record Taken (table store word tag phones : List ℕ) : Type 0 where
@@ -41,14 +38,14 @@ module _ (table store word tag phones : List ℕ) where
   taken h =
       cases (isPhoneTable table) (λ t₁. cases (isSound store) (λ t₂. cases (isWord word && isWord tag && asciiPhones phones) (λ t₃.
       cases (mayAddAll table phones) (λ t₅. cases (ltb 24 (length phones / 16))
-      (λ t₇. refusal-never 7 (omega arith) (rw (t₁, t₂, t₃, t₅, t₇) at h))
+      (λ t₇. never-accepted Phones 0 0 0 (rw (t₁, t₂, t₃, t₅, t₇) at h))
       (λ t₇. cases (isFull store (newEntry word tag phones))
-      (λ t₈. refusal-never 8 (omega arith) (rw (t₁, t₂, t₃, t₅, t₇, t₈) at h))
+      (λ t₈. never-accepted Full 0 0 0 (rw (t₁, t₂, t₃, t₅, t₇, t₈) at h))
       (λ t₈. record { tabled = t₁; stored = sound store t₂; fits = new-fits word tag phones t₃ (ltb-false 24 (length phones / 16) t₇); free = t₈ })))
-      (λ t₅. refusal-never 5 (omega arith) (rw (t₁, t₂, t₃, t₅) at h)))
-      (λ t₃. refusal-never 3 (omega arith) (rw (t₁, t₂, t₃) at h)))
-      (λ t₂. refusal-never 2 (omega arith) (rw (t₁, t₂) at h)))
-      (λ t₁. refusal-never 1 (omega arith) (rw t₁ at h))
+      (λ t₅. never-accepted UnknownPhone 0 0 0 (rw (t₁, t₂, t₃, t₅) at h)))
+      (λ t₃. never-accepted Text 0 0 0 (rw (t₁, t₂, t₃) at h)))
+      (λ t₂. never-accepted Unsound 0 0 0 (rw (t₁, t₂) at h)))
+      (λ t₁. never-accepted Section 0 0 0 (rw t₁ at h))
 
   -- an answer without a refusal has nothing else to tell
   pub accepted-is : addEntry table store word tag phones .refusal ≡ 0 → addEntry table store word tag phones ≡ accepted 0 0

@@ -14,17 +14,6 @@ pub fn first_line(text: &[u8]) -> &[u8]
     records::head(text, texts::find(text, 10))
 }
 
-// What stands behind the first line's end.
-pub fn after_line(text: &[u8]) -> &[u8]
-    ensures { λ r. ⌜ now r ≡ afterLine (now (text .entry)) ⌝ }
-{
-    let n = texts::find(text, 10);
-    if n < text.len() {
-        return records::tail(text, n + 1);
-    }
-    records::tail(text, n)
-}
-
 // A line cut at "#".
 pub fn content(line: &[u8]) -> &[u8]
     ensures { λ r. ⌜ now r ≡ contentOf (now (line .entry)) ⌝ }

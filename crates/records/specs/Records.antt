@@ -29,6 +29,11 @@ firstRecords w (suc n) b = take w b ∷ firstRecords w n (drop w b)
 unfoldable pub records : ℕ → List ℕ → List (List ℕ)
 records w b = firstRecords w (length b / w) b
 
+-- a record inside the bytes is as long as it is wide
+pub length-recordAt : (w : ℕ) (b : List ℕ) (n : ℕ) → w * n + w ≤ length b → length (recordAt w b n) ≡ w
+unfolding recordAt
+length-recordAt w b n h = length-take-le w (drop (w * n) b) (rw length-drop (omega arith))
+
 length-first : (w n : ℕ) (b : List ℕ) → length (firstRecords w n b) ≡ n
 unfolding firstRecords
 length-first w zero b = refl

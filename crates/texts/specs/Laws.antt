@@ -1,3 +1,4 @@
 -- Laws that only proofs use.
 pub mod Keys
+pub mod Same
 pub mod Largest

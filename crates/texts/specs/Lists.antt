@@ -4,9 +4,9 @@ use Prim.Native.Nat.{ℕ, zero, suc, _+_, _≤_, _<_}
 use native.Mathlib.Numerals.{add-one}
 use native.Mathlib.Nat.{not-suc-le-zero, le-of-suc-le-suc}
 use native.Mathlib.Omega.{arith}
-use mathlib.Core.Path.{_≡_, refl, ap}
-use mathlib.Core.Bool.{Bool, true, false, _&&_, _||_}
-use mathlib.Core.List.{List, [], _∷_, map}
+use mathlib.Core.Path.{_≡_, refl, sym, ap}
+use mathlib.Core.Bool.{Bool, true, false, _&&_, _||_, and-assoc}
+use mathlib.Core.List.{List, [], _∷_, _++_, map}
 use mathlib.Core.Option.{Option, none as nothing, some as just}
 use lib.ListN.{length, getD, drop, drop-of-length-le}
 use lib.Seq.{drop-cons}
@@ -137,3 +137,36 @@ pub getD-in : (l : List ℕ) (k c d : ℕ) → k < length l → getD l k c ≡ g
 getD-in [] k c d h = absurd (not-suc-le-zero h)
 getD-in (x ∷ xs) zero c d h = refl
 getD-in (x ∷ xs) (suc k) c d h = getD-in xs k c d (le-of-suc-le-suc h)
+
+-- a test passes at each element of two lists put together if it does at each of both
+pub every-append : {A : Type 0} (f : A → Bool) (a b : List A) → every f (a ++ b) ≡ (every f a && every f b)
+unfolding every
+every-append f [] b = refl
+every-append f (x ∷ xs) b = rw (every-append f xs b) (sym (and-assoc (f x) (every f xs) (every f b)))
+
+-- a test that passes at each number's element passes at each element
+pub every-from : {A : Type 0} (f : A → Bool) (l : List A) (d : A) → ((k : ℕ) → k < length l → f (getD l k d) ≡ true) → every f l ≡ true
+unfolding every
+every-from f [] d h = refl
+every-from f (x ∷ xs) d h = rw (h 0 (omega arith)) (every-from f xs d (λ k l. h (suc k) (omega arith)))
+
+-- the element at the place of the first that passes, passes
+pub place-passes : {A : Type 0} (f : A → Bool) (l : List A) (d : A) → place f l < length l → f (getD l (place f l) d) ≡ true
+unfolding place
+place-passes f [] d h = absurd (not-suc-le-zero h)
+place-passes f (x ∷ xs) d h =
+    cases (f x)
+    (λ e. rw e e)
+    (λ e. let k : suc (suc (place f xs)) ≤ suc (length xs) = rw e at h in rw e (place-passes f xs d (le-of-suc-le-suc k)))
+
+-- what an optional element must be, and the first of a list is if each is
+abbrev pub Passes : {A : Type 0} → (A → Bool) → Option A → Type 0
+Passes g nothing = Unit {0}
+Passes g (just x) = g x ≡ true
+
+pub first-passes : {A : Type 0} (f g : A → Bool) (l : List A) → every g l ≡ true → Passes g (first f l)
+unfolding first every
+first-passes f g [] h = tt
+first-passes f g (x ∷ xs) h =
+    let b = both-true (g x) (every g xs) h in
+    cases (f x) (λ e. rw e (b .0)) (λ e. rw e (first-passes f g xs (b .1)))

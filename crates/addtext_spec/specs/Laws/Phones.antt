@@ -1,7 +1,6 @@
 -- A phone that may be added has at most 15 bytes, each below 128.
 -- Assumes nothing.
-use Prim.Native.Nat.{ℕ, suc, _≤_, _<_}
-use native.Mathlib.Nat.{not-suc-le-zero, le-of-suc-le-suc}
+use Prim.Native.Nat.{ℕ, _<_}
 use native.Mathlib.Omega.{arith}
 use mathlib.Core.Path.{_≡_, refl, sym, subst}
 use mathlib.Core.Bool.{Bool, true, false, _&&_}
@@ -10,7 +9,7 @@ use lib.Dec.{leb, eqb}
 use lib.ListN.{length, getD}
 use borrow.Author.Tests.{leb-true, ltb-true}
 use Rattle.texts.specs.Choice.{both-true, cases, never}
-use Rattle.texts.specs.Lists.{every, every-at, some, place}
+use Rattle.texts.specs.Lists.{every, every-at, every-from, some, place, place-passes}
 use Rattle.texts.specs.Text.{ascii, same, same-true, isPhone, phone-from}
 use Rattle.phoneset.specs.Phones.{Phone, phones, noPhone, rowOf, isKnown}
 use Rattle.phoneset.specs.Rules.{fits, phones-fit, phone-count}
@@ -36,23 +35,9 @@ some-is p (x ∷ xs) P e h =
     (λ s. subst (λ (y : List ℕ). P y ≡ true) (sym (same-true p x s)) (b .0))
     (λ s. ih (rw s at h))
 
-every-from : (f : List ℕ → Bool) (l : List (List ℕ)) → ((k : ℕ) → k < length l → f (getD l k []) ≡ true) → every f l ≡ true
-unfolding every
-every-from f [] h = refl
-every-from f (x ∷ xs) h = rw (h 0 (omega arith)) (every-from f xs (λ k l. h (suc k) (omega arith)))
-
--- the element at its place passes
-place-passes : (f : Phone → Bool) (l : List Phone) → place f l < length l → f (getD l (place f l) noPhone) ≡ true
-unfolding place
-place-passes f [] h = absurd (not-suc-le-zero h)
-place-passes f (x ∷ xs) h =
-    cases (f x)
-    (λ e. rw e e)
-    (λ e. let k : suc (suc (place f xs)) ≤ suc (length xs) = rw e at h in rw e (place-passes f xs (le-of-suc-le-suc k)))
-
 listed-phone : (table p : List ℕ) → isPhoneTable table ≡ true → isListed table p ≡ true → isPhone p ≡ true
 unfolding isListed
-listed-phone table p t h = some-is p (tablePhones table) isPhone (every-from isPhone (tablePhones table) (λ k l. one k l)) h
+listed-phone table p t h = some-is p (tablePhones table) isPhone (every-from isPhone (tablePhones table) [] (λ k l. one k l)) h
   where
     one : (k : ℕ) → k < length (tablePhones table) → isPhone (getD (tablePhones table) k []) ≡ true
     one k l = let n = length-table table in let f = table-fits table k t (omega arith) in phone-from (getD (tablePhones table) k []) (f .short) (f .low)
@@ -64,7 +49,7 @@ known-phone p h =
     let l = ltb-true (place test phones) 50 h in
     let c = phone-count in
     let k : place test phones < length phones = omega arith in
-    let s = same-true (getD phones (place test phones) noPhone .name) p (place-passes test phones k) in
+    let s = same-true (getD phones (place test phones) noPhone .name) p (place-passes test phones noPhone k) in
     let f = every-at fits phones noPhone phones-fit (place test phones) k in
     subst (λ (y : List ℕ). isPhone y ≡ true) s (row-phone (getD phones (place test phones) noPhone) f)
 

@@ -12,12 +12,12 @@ use borrow.Author.Tests.{ltb-false, le-ltb}
 use Rattle.texts.specs.Choice.{cases}
 use Rattle.answers.specs.declared.Answer.{Answer}
 use Rattle.answers.specs.declared.Refusal.{Refusal}
-use Rattle.answers.specs.declared.Refusal.the-variants.{Section, Unsound, Text, Line, UnknownPhone, Damaged, Phones, Full, Short}
 use Rattle.answers.specs.declared.Source.{Source}
 use Rattle.answers.specs.declared.Source.the-variants.{Runtime, Addenda, Compiled}
 use Rattle.answers.specs.declared.Looked.{Looked}
 use Rattle.answers.specs.declared.Looked.the-variants.{Refused, Nothing, Found}
 use Rattle.answers.specs.Told.{refusalNumber, sourceNumber, refused, accepted, toldLooked}
+use Rattle.answers.specs.Laws.Numbers.{never-accepted}
 use Rattle.lts.specs.Call.{toldPhones, outPhones}
 use Rattle.lexicon_spec.specs.Lookup.{Finding, nothing, damaged, found, toldFinding, outFinding}
 use Rattle.pipeline_spec.specs.Pronounced.{onLetters, onFinding}
@@ -35,25 +35,11 @@ roomBehind (Found s n) fromLetters room = room
 roomBehind Nothing fromLetters room = outPhones fromLetters room
 roomBehind (Refused r) fromLetters room = outPhones fromLetters room
 
--- no refusal and no source has the number 0
-refusal-number : (r : Refusal) → 0 < refusalNumber r
-refusal-number Section = omega arith
-refusal-number Unsound = omega arith
-refusal-number Text = omega arith
-refusal-number Line = omega arith
-refusal-number UnknownPhone = omega arith
-refusal-number Damaged = omega arith
-refusal-number Phones = omega arith
-refusal-number Full = omega arith
-refusal-number Short = omega arith
-
+-- no source has the number 0
 source-number : (s : Source) → 0 < sourceNumber s
 source-number Runtime = omega arith
 source-number Addenda = omega arith
 source-number Compiled = omega arith
-
-never-refused : {C : Type 0} (r : Refusal) (k n : ℕ) → refused (refusalNumber r) 0 ≡ accepted k n → C
-never-refused r k n e = absurd (omega (arith, refusal-number r, ap (λ (a : Answer). a .refusal) e))
 
 -- 96 cells hold all phones of a finding that are not too many
 holds : (room : List ℕ) (ps : List (List ℕ)) → length room ≡ 1536 → ltb 96 (length ps) ≡ false → ltb (length room) (16 * length ps) ≡ false
@@ -62,12 +48,12 @@ holds room ps l t = let n = ltb-false 96 (length ps) t in le-ltb (length room) (
 -- a refused lookup refuses the word
 pub lookup-refused : (f : Finding) (o : Option (List (List ℕ))) (room : List ℕ) → length room ≡ 1536 → (r : Refusal) → toldLooked (Refused r) ≡ toldFinding f room
     → (refused (refusalNumber r) 0 ≡ toldSpoken (onFinding f o)) × (outFinding f room ≡ cellsSpoken (onFinding f o) room)
-lookup-refused nothing o room l r e = never-refused r 0 0 e
+lookup-refused nothing o room l r e = never-accepted r 0 0 0 e
 lookup-refused damaged o room l r e = (e, refl)
 lookup-refused (found s ps) o room l r e =
     cases (ltb 96 (length ps))
     (λ t. let z : refused (refusalNumber r) 0 ≡ refused 7 0 = rw t at e in (rw t z, rw t))
-    (λ t. never-refused r (sourceNumber s) (length ps) (rw (t, holds room ps l t) at e))
+    (λ t. never-accepted r 0 (sourceNumber s) (length ps) (rw (t, holds room ps l t) at e))
 
 -- and all phones of 47 letters
 letters-held : (m : ℕ) (o : Option (List (List ℕ))) (room : List ℕ) → length room ≡ 1536 → m ≤ 47 → Few (2 * m) o → (toldPhones o room ≡ toldSpoken (onLetters o)) × (outPhones o room ≡ cellsSpoken (onLetters o) room)

@@ -3,14 +3,14 @@
 use Prim.Native.Nat.{ℕ, zero, suc, _+_, _*_, _-_, _/_, _≤_}
 use native.Mathlib.Omega.{arith}
 use mathlib.Core.Path.{_≡_, refl}
-use mathlib.Core.Bool.{Bool, true, _&&_}
-use mathlib.Core.List.{List, [], _∷_, _++_, map}
+use mathlib.Core.Bool.{true, _&&_}
+use mathlib.Core.List.{List, [], _∷_, map}
 use mathlib.Core.Option.{Option, none, some}
 use lib.Dec.{leb, ltb}
 use lib.ListN.{length, getD, take, drop, length-take, length-drop, length-append, List·getD-eq-default}
 use borrow.Author.Tests.{leb-true, le-leb, leb-false}
 use Rattle.texts.specs.Choice.{both-true, cases}
-use Rattle.texts.specs.Lists.{every, first, place}
+use Rattle.texts.specs.Lists.{every, first, place, every-append, Passes, first-passes}
 use Rattle.texts.specs.Text.{bytes, folded, ascii, is, same, isPhone, phone-from, ascii-take, ascii-drop}
 use Rattle.records.specs.Records.{recordAt}
 use Rattle.records.specs.Fields.{u16At, u32At}
@@ -32,28 +32,11 @@ use Rattle.trees.specs.declared.Walked.the-variants.{Phone, Damaged}
 use Rattle.lts.specs.Letters.{padded, window, spoken, leaf, letter, joined, upTo, letters}
 use Rattle.lexicon_spec.specs.Lookup.{Finding, nothing, damaged, found, onEntry, onRow, onChosen, fromCompiled, find}
 
--- what an optional element must be
-abbrev Passes : {A : Type 0} → (A → Bool) → Option A → Type 0
-Passes g none = Unit {0}
-Passes g (some x) = g x ≡ true
-
-first-passes : {A : Type 0} (f g : A → Bool) (l : List A) → every g l ≡ true → Passes g (first f l)
-unfolding first every
-first-passes f g [] h = tt
-first-passes f g (x ∷ xs) h =
-    let b = both-true (g x) (every g xs) h in
-    cases (f x) (λ e. rw e (b .0)) (λ e. rw e (first-passes f g xs (b .1)))
-
 -- phones of at most 15 bytes
 abbrev pub Fit : Finding → Type 0
 Fit nothing = Unit {0}
 Fit damaged = Unit {0}
 Fit (found s ps) = every isPhone ps ≡ true
-
-every-append : (f : List ℕ → Bool) (xs ys : List (List ℕ)) → every f xs ≡ true → every f ys ≡ true → every f (xs ++ ys) ≡ true
-unfolding every
-every-append f [] ys a b = b
-every-append f (x ∷ xs) ys a b = let h = both-true (f x) (every f xs) a in rw (h .0) (every-append f xs ys (h .1) b)
 
 -- any number's phone in a table, none past its end
 table-phone : (table : List ℕ) (k : ℕ) → isPhoneTable table ≡ true → isPhone (getD (tablePhones table) k []) ≡ true
@@ -137,7 +120,7 @@ module _ (table index model : List ℕ) (t : isPhoneTable table ≡ true) where
   joined-fit : (left o : Option (List (List ℕ))) → AreFit left → AreFit o → AreFit (joined table index model left o)
   joined-fit left none a b = tt
   joined-fit none (some ps) a b = tt
-  joined-fit (some qs) (some ps) a b = every-append isPhone qs ps a b
+  joined-fit (some qs) (some ps) a b = rw (every-append isPhone qs ps, a, b)
 
   up-fit : (text : List ℕ) (n : ℕ) → AreFit (upTo table index model text n)
   unfolding upTo every

@@ -6,13 +6,14 @@ use native.Mathlib.Omega.{arith}
 use mathlib.Core.Path.{_≡_, refl, sym, ap, _∙_}
 use mathlib.Core.Bool.{Bool, true, false, _&&_, and-assoc, and-true, and-false}
 use mathlib.Core.List.{List, [], _∷_, _++_, map}
-use lib.Dec.{eqb, leb}
+use lib.Dec.{leb}
 use lib.ListN.{length, getD, take, drop, replicate, length-append, length-replicate, length-take, length-drop, take-append-drop}
 use lib.Seq.{take-all, take-take, take-add, take-suc, drop-at, length-take-le}
-use borrow.Author.Tests.{eqb-true, eq-eqb, ne-eqb, lt-ltb, leb-true, leb-false, le-leb, lt-leb}
+use borrow.Author.Tests.{eq-eqb, ne-eqb, lt-ltb, leb-true, leb-false, le-leb, lt-leb}
 use Rattle.texts.specs.Choice.{both-true, cases}
-use Rattle.texts.specs.Lists.{every}
+use Rattle.texts.specs.Lists.{every, every-append}
 use Rattle.texts.specs.Text.{is, low, ascii, isWord, same, same-refl, eq-same, word-short}
+use Rattle.texts.specs.Laws.Same.{same-append, same-zeros, zeros-low}
 use Rattle.records.specs.Fields.{u16At}
 use Rattle.records.specs.Records.{firstRecords, records}
 use Rattle.cells.specs.Cells.{text, phonesOf, cell, cellsOf, asciiPhones, length-phonesOf, length-cellsOf, length-cell, phone-fits}
@@ -33,36 +34,6 @@ usedCells r = take (16 * getD r 51 0) (drop 64 r)
 -- a cell's length is at most 15, and the bytes past its text are zero
 unfoldable pub isTidy : List ℕ → Bool
 isTidy c = leb (getD c 0 0) 15 && every (is 0) (drop (1 + getD c 0 0) c)
-
--- two strings put together are two others, part by part
-same-append : (a b c d : List ℕ) → length a ≡ length c → same (a ++ b) (c ++ d) ≡ (same a c && same b d)
-unfolding same
-same-append [] b [] d l = refl
-same-append [] b (y ∷ ys) d l = absurd (omega arith)
-same-append (x ∷ xs) b [] d l = absurd (omega arith)
-same-append (x ∷ xs) b (y ∷ ys) d l = rw (same-append xs b ys d (omega arith)) (sym (and-assoc (eqb x y) (same xs ys) (same b d)))
-
--- zeros are what is zero at each byte
-same-zeros : (a : List ℕ) (n : ℕ) → length a ≡ n → same a (replicate n 0) ≡ every (is 0) a
-unfolding same every is
-same-zeros [] zero l = refl
-same-zeros [] (suc n) l = absurd (omega arith)
-same-zeros (x ∷ xs) zero l = absurd (omega arith)
-same-zeros (x ∷ xs) (suc n) l = rw (same-zeros xs n (omega arith))
-
-every-append : (f : ℕ → Bool) (a b : List ℕ) → every f (a ++ b) ≡ (every f a && every f b)
-unfolding every
-every-append f [] b = refl
-every-append f (x ∷ xs) b = rw (every-append f xs b) (sym (and-assoc (f x) (every f xs) (every f b)))
-
--- zeros are below 128
-zeros-low : (s : List ℕ) → every (is 0) s ≡ true → ascii s ≡ true
-unfolding every is ascii low
-zeros-low [] h = refl
-zeros-low (x ∷ xs) h =
-    let b = both-true (eqb x 0) (every (is 0) xs) h in
-    let e = eqb-true x 0 (b .0) in
-    rw (e) (zeros-low xs (b .1))
 
 -- a string that goes on with t behind its first k bytes
 same-more : (r s t : List ℕ) (k m : ℕ) → k ≤ m → m ≤ length r → length s ≡ k → same (take m r) (s ++ t) ≡ (same (take k r) s && same (drop k (take m r)) t)

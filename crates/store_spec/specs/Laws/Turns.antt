@@ -8,8 +8,8 @@ use mathlib.Core.Logic.{_≢_}
 use mathlib.Core.Bool.{Bool, true, false}
 use mathlib.Core.List.{List, _++_, map, append-assoc}
 use lib.Dec.{eqb}
-use lib.ListN.{length, take, drop, length-drop}
-use lib.Seq.{length-take-le, take-all, drop-drop}
+use lib.ListN.{length, take, drop}
+use lib.Seq.{take-all, drop-drop}
 use borrow.Author.Tests.{eq-eqb, ne-eqb, le-leb, lt-leb}
 use Rattle.texts.specs.Lists.{some}
 use Rattle.records.specs.Fields.{put16}
@@ -20,10 +20,6 @@ use Rattle.store_spec.specs.Store.{next, last, entryAt, sameKey, keysDif
 use Rattle.store_spec.specs.Adding.{seek, tied}
 
 -- a slot that ends within the store has 512 bytes
-pub length-slotAt : (b : List ℕ) (n : ℕ) → 512 * n + 512 ≤ length b → length (recordAt 512 b n) ≡ 512
-unfolding recordAt
-length-slotAt b n h = length-take-le 512 (drop (512 * n) b) (rw length-drop (omega arith))
-
 -- the last of a chain
 module _ (f : ℕ → ℕ) where
   pub end-turn : (left p q : ℕ) → 0 < left → q ≡ f p → q ≢ 0 → endOf p (chain f left p) ≡ endOf q (chain f (left - 1) q)

@@ -7,10 +7,10 @@ use mathlib.Core.Path.{_≡_, refl, sym, ap, _∙_, subst}
 use mathlib.Core.Logic.{_≢_}
 use mathlib.Core.Bool.{true}
 use mathlib.Core.List.{List, [], _∷_}
-use lib.ListN.{length, length-take, length-drop}
+use lib.ListN.{length}
 use Rattle.texts.specs.Lists.{from, length-from}
 use Rattle.records.specs.Fields.{put16}
-use Rattle.records.specs.Records.{recordAt}
+use Rattle.records.specs.Records.{recordAt, length-recordAt}
 use Rattle.records.specs.Chain.{All, endOf, all-map, all-end}
 use Rattle.items.specs.Item.{itemOf, isWordItem, isSyllableItem, isPhoneItem, isHeadItem, fits, isItem, isHead}
 use Rattle.items.specs.Laws.Patched.{patch-clean, patch-next, patch-follow}
@@ -23,10 +23,6 @@ use Rattle.utterance_spec.specs.Laws.Said.{length-syllables}
 use Rattle.utterance_spec.specs.Laws.Grown.{Grown, withWord}
 use Rattle.utterance_spec.specs.Laws.Wrote.{Good, Wrote, word-good, wrote-are, wrote-items, wrote-kept, length-wrote, wrote-other, wrote-new}
 use Rattle.utterance_spec.specs.Laws.Tied.{Holds, length-tied, tied-other, tied-word, tied-phone, tied-head}
-
-pub length-record : (b : List ℕ) (j : ℕ) → 64 * j + 64 ≤ length b → length (recordAt 64 b j) ≡ 64
-unfolding recordAt
-length-record b j h = simp (length-take, length-drop) (omega arith)
 
 pub length-word : (n q : ℕ) (w : Word) → length (wordItems n q w) ≡ size w
 unfolding wordItems
@@ -97,7 +93,7 @@ module _ (b : List ℕ) (w : Word) (short : length b ≤ 65536) (room : used b +
   before j out = wrote-other b n (wordItems n lp w) good wide j (λ h. rw (length-word n lp w) (let o = out (omega arith) in omega arith))
 
   long : (j : ℕ) → j ≤ used b → length (recordAt 64 b j) ≡ 64
-  long j h = length-record b j (omega arith)
+  long j h = length-recordAt 64 b j (omega arith)
 
   is-c : appended b w ≡ c
   unfolding appended

@@ -1,27 +1,20 @@
 -- One walk over the items in reading order decides whether each is well placed, each syllable has a phone and the phones are chained: one law for a turn, an early stop and the end, and one that it asks what `isSound` asks.
 -- Assumes nothing.
-use Prim.Native.Nat.{ℕ, zero, suc, _-_, _*_, _≤_, _<_}
+use Prim.Native.Nat.{ℕ, zero, suc, _-_, _≤_, _<_}
 use native.Mathlib.Nat.{not-suc-le-zero}
 use native.Mathlib.Omega.{arith}
 use mathlib.Core.Path.{_≡_, refl}
 use mathlib.Core.Bool.{Bool, true, false, _&&_, and-true, and-false}
 use mathlib.Core.List.{List, _∷_}
 use lib.Dec.{eqb}
-use lib.ListN.{length, drop, length-drop}
-use lib.Seq.{length-take-le}
 use Rattle.texts.specs.Choice.{if_then_else_, cases, never, both-true}
 use Rattle.texts.specs.Lists.{every}
-use Rattle.records.specs.Records.{recordAt}
 use Rattle.records.specs.Chain.{chain, chain-more}
 use Rattle.items.specs.Item.{Item}
 use Rattle.utterance_spec.specs.Sheet.{at, used, items, after, isFull, isChained, isPlaced, walks, order}
 use Rattle.utterance_spec.specs.Decided.{placed}
 
 -- an item of the sheet has 64 bytes
-pub length-itemAt : (b : List ℕ) (n : ℕ) → n < items b → length (recordAt 64 b n) ≡ 64
-unfolding recordAt
-length-itemAt b n h = length-take-le 64 (drop (64 * n) b) (rw length-drop (omega arith))
-
 -- an item that is well placed is inside the sheet
 pub placed-inside : (b : List ℕ) (n : ℕ) → used b < items b → isPlaced b n ≡ true → n < items b
 placed-inside b n r h = let i = placed b n h .0 .inside in omega arith

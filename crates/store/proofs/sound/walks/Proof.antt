@@ -8,8 +8,8 @@ use mathlib.Core.Bool.{true, false}
 use lib.ListN.{length}
 use lib.Dec.{eqb}
 use Rattle.slots_spec.specs.Slot.{isSlot}
-use Rattle.records.specs.Records.{recordAt}
-use Rattle.store_spec.specs.Laws.Turns.{length-slotAt, walks-turn, walks-short, walks-past, walks-stop, walks-end}
+use Rattle.records.specs.Records.{recordAt, length-recordAt}
+use Rattle.store_spec.specs.Laws.Turns.{walks-turn, walks-short, walks-past, walks-stop, walks-end}
 use Rattle.store_spec.specs.Store.{walks}
 use borrow.Author.Needs.{needs}
 use Rattle.store.proofs.sound.walks.Statement.{statement}
@@ -37,7 +37,7 @@ slot-requires : tie.Need-slot-requires Inv-loop μ-loop
 slot-requires c κs = search needs
 
 is-slot-requires : tie.Need-is-slot-requires Inv-loop μ-loop
-is-slot-requires c κs = ap (λ (l : List ℕ). length l) (c .slot .ensures) ∙ length-slotAt (c .before .before .before .before .before .before .before .args .store .now) (c .before .before .before .next .result) (omega arith)
+is-slot-requires c κs = ap (λ (l : List ℕ). length l) (c .slot .ensures) ∙ length-recordAt 512 (c .before .before .before .before .before .before .before .args .store .now) (c .before .before .before .next .result) (omega arith)
 
 returns-3 : tie.Need-returns-3 Inv-loop μ-loop
 returns-3 c =

@@ -9,10 +9,9 @@ use mathlib.Core.List.{List}
 use mathlib.Core.Bool.{true, false, not, _&&_}
 use lib.Dec.{eqb, leb}
 use lib.ListN.{length}
-use Rattle.records.specs.Records.{recordAt}
+use Rattle.records.specs.Records.{recordAt, length-recordAt}
 use Rattle.items.specs.Item.{isItem}
 use Rattle.utterance_spec.specs.Sheet.{used, isPlaced}
-use Rattle.utterance_spec.specs.Laws.Turns.{length-itemAt}
 use Rattle.utterance.proofs.order.is_placed.Tie as tie
 
 front : (c : tie.Else3) → (not (eqb (c .before .before .before .before .before .before .before .args .i) 0) && leb (c .before .before .before .before .before .before .before .args .i) (used (c .before .before .before .before .before .before .before .args .sheet .now)) && isItem (recordAt 64 (c .before .before .before .before .before .before .before .args .sheet .now) (c .before .before .before .before .before .before .before .args .i))) ≡ true
@@ -44,7 +43,7 @@ is-item-requires : tie.Need-is-item-requires
 is-item-requires c κs =
     let b = c .before .before .before .before .before .args .sheet .now in
     let e = c .before .before .used .ensures in
-    ap (λ (l : List ℕ). length l) (c .item .ensures) ∙ length-itemAt b (c .before .before .before .before .before .args .i) (omega arith)
+    ap (λ (l : List ℕ). length l) (c .item .ensures) ∙ length-recordAt 64 b (c .before .before .before .before .before .args .i) (omega arith)
 
 returns-3 : tie.Need-returns-3
 unfolding isPlaced

@@ -10,10 +10,10 @@ use mathlib.Core.Bool.{true, false}
 use lib.Dec.{leb}
 use lib.ListN.{length}
 use Rattle.texts.specs.Choice.{both-true}
-use Rattle.records.specs.Records.{recordAt}
+use Rattle.records.specs.Records.{recordAt, length-recordAt}
 use Rattle.items.specs.Item.{isHead}
 use Rattle.utterance_spec.specs.Sheet.{at, used, items, isSheetLength, isParent, isSound}
-use Rattle.utterance_spec.specs.Laws.Turns.{length-itemAt, ordered-sound}
+use Rattle.utterance_spec.specs.Laws.Turns.{ordered-sound}
 use Rattle.utterance.proofs.sound.is_sound.Tie as tie
 
 fitting : (c : tie.Else1) → isSheetLength (length (c .before .before .before .args .sheet .now)) ≡ true
@@ -38,7 +38,7 @@ is-head-requires c κs =
     let b = c .before .before .before .before .args .sheet .now in
     let n = length b in
     let s = leb-true 64 n (both-true (leb 64 n) (leb n 65536) (fitting ((c .before))) .0) in
-    ap (λ (l : List ℕ). length l) (c .item .ensures) ∙ length-itemAt b 0 (omega arith)
+    ap (λ (l : List ℕ). length l) (c .item .ensures) ∙ length-recordAt 64 b 0 (omega arith)
 
 returns-2 : tie.Need-returns-2
 unfolding isSound
