@@ -61,23 +61,23 @@ unfoldable pub isSpoken : List ℕ → List ℕ → Bool
 isSpoken table s = every (λ (n : ℕ). ltb n (u32At table 0)) (numbersOf s)
 
 -- the phones of an entry
-unfoldable pub phonesOf : List ℕ → List ℕ → List (List ℕ)
-phonesOf table s = map (λ (n : ℕ). getD (tablePhones table) n []) (numbersOf s)
+unfoldable pub entryPhones : List ℕ → List ℕ → List (List ℕ)
+entryPhones table s = map (λ (n : ℕ). getD (tablePhones table) n []) (numbersOf s)
 
 -- an entry has as many phones as numbers, each the one of its number, which the table has
-pub length-spoken : (table s : List ℕ) → length (phonesOf table s) ≡ length (numbersOf s)
-unfolding phonesOf
+pub length-spoken : (table s : List ℕ) → length (entryPhones table s) ≡ length (numbersOf s)
+unfolding entryPhones
 length-spoken table s = length-map (numbersOf s) (λ (n : ℕ). getD (tablePhones table) n [])
 
-pub spoken-at : (table s : List ℕ) (i : ℕ) → i < length (numbersOf s) → getD (phonesOf table s) i [] ≡ getD (tablePhones table) (getD (numbersOf s) i 0) []
-unfolding phonesOf
+pub spoken-at : (table s : List ℕ) (i : ℕ) → i < length (numbersOf s) → getD (entryPhones table s) i [] ≡ getD (tablePhones table) (getD (numbersOf s) i 0) []
+unfolding entryPhones
 spoken-at table s i h = getD-map (λ (n : ℕ). getD (tablePhones table) n []) (numbersOf s) i 0 [] h
 
 pub number-in : (table s : List ℕ) (i : ℕ) → isSpoken table s ≡ true → i < length (numbersOf s) → getD (numbersOf s) i 0 < u32At table 0
 unfolding isSpoken
 number-in table s i e h = ltb-true (getD (numbersOf s) i 0) (u32At table 0) (every-at (λ (n : ℕ). ltb n (u32At table 0)) (numbersOf s) 0 e i h)
 
-pub spoken-fits : (table s : List ℕ) → isPhoneTable table ≡ true → isSpoken table s ≡ true → (i : ℕ) → i < length (phonesOf table s) → length (getD (phonesOf table s) i []) ≤ 15
+pub spoken-fits : (table s : List ℕ) → isPhoneTable table ≡ true → isSpoken table s ≡ true → (i : ℕ) → i < length (entryPhones table s) → length (getD (entryPhones table s) i []) ≤ 15
 spoken-fits table s t e i h =
     let l = length-spoken table s in
     rw (spoken-at table s i (omega arith)) (table-fits table (getD (numbersOf s) i 0) t (number-in table s i e (omega arith)) .short)

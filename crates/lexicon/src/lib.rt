@@ -12,7 +12,7 @@ ghost use Rattle.addenda.specs.Addenda.{addenda, noAddendum};
 ghost use Rattle.store_spec.specs.Store.{isSound, isWanted, next as nextOf, used as usedOf, entries};
 ghost use Rattle.store_spec.specs.Adding.{seek as seekOf};
 ghost use Rattle.compiled_spec.specs.Lexicon.{isLexicon};
-ghost use Rattle.compiled_spec.specs.Entries.{isSpoken, phonesOf as spokenOf};
+ghost use Rattle.compiled_spec.specs.Entries.{isSpoken, entryPhones};
 ghost use Rattle.answers.specs.Told.{toldLooked};
 ghost use Rattle.answers.specs.declared.Source.the-variants.{Runtime, Addenda};
 ghost use Rattle.lexicon_spec.specs.Lookup.{found, spoken, find as findOf, fromCompiled, toldFinding, outFinding};
@@ -73,8 +73,8 @@ fn give_row(n: usize, out: &mut [u8]) -> Looked
 // The phones of a compiled entry as cells at the front of out; places are those of the table's phones.
 fn put_spoken(phones: &[u8], places: &[u16], s: &[u8], out: &mut [u8])
     requires { ⌜ Placed (now phones) (now places) ⌝ }
-    requires { ⌜ (isPhoneTable (now phones) ≡ true) × (isSpoken (now phones) (now s) ≡ true) × (16 * length (spokenOf (now phones) (now s)) ≤ length (now out)) ⌝ }
-    ensures { λ _. ⌜ now (out .exit) ≡ cellsOf (spokenOf (now (phones .entry)) (now (s .entry))) ++ drop (16 * length (spokenOf (now (phones .entry)) (now (s .entry)))) (now (out .entry)) ⌝ }
+    requires { ⌜ (isPhoneTable (now phones) ≡ true) × (isSpoken (now phones) (now s) ≡ true) × (16 * length (entryPhones (now phones) (now s)) ≤ length (now out)) ⌝ }
+    ensures { λ _. ⌜ now (out .exit) ≡ cellsOf (entryPhones (now (phones .entry)) (now (s .entry))) ++ drop (16 * length (entryPhones (now (phones .entry)) (now (s .entry)))) (now (out .entry)) ⌝ }
 {
     let numbers = compiled::numbers(s);
     let mut i = 0;

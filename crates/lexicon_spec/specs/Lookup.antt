@@ -18,7 +18,7 @@ use Rattle.addenda.specs.Rules.{addenda-count}
 use Rattle.addenda.specs.Find.{isMeant}
 use Rattle.slots_spec.specs.Slot.{Entry}
 use Rattle.store_spec.specs.Store.{isWanted}
-use Rattle.compiled_spec.specs.Entries.{entryAt, isSpoken, phonesOf}
+use Rattle.compiled_spec.specs.Entries.{entryAt, isSpoken, entryPhones}
 use Rattle.compiled_spec.specs.Search.{chosen}
 use Rattle.compiled_spec.specs.declared.Chosen.{Chosen}
 use Rattle.compiled_spec.specs.declared.Chosen.the-variants.{Damaged, Missing, Entry as At}
@@ -47,7 +47,7 @@ onRow none rest = rest
 
 -- an entry that is chosen is damaged also if a number has no phone
 abbrev pub spoken : List ℕ → List ℕ → Finding
-spoken phones s = if isSpoken phones s then found Compiled (phonesOf phones s) else damaged
+spoken phones s = if isSpoken phones s then found Compiled (entryPhones phones s) else damaged
 
 abbrev pub onChosen : List ℕ → List ℕ → List ℕ → Chosen → Finding
 onChosen phones index dat Damaged = damaged

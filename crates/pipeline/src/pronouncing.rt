@@ -8,7 +8,7 @@ ghost use Rattle.store_spec.specs.Store.{isSound, entries};
 ghost use Rattle.compiled_spec.specs.Lexicon.{isLexicon};
 ghost use Rattle.lts.specs.Letters.{isTrees, letters};
 ghost use Rattle.answers.specs.Told.{toldPredicted};
-ghost use Rattle.pipeline_spec.specs.Pronounced.{pronounced};
+ghost use Rattle.pipeline_spec.specs.Pronounced.{pronounced, tables};
 ghost use Rattle.pipeline_spec.specs.Cutting.{toldSpoken, cellsSpoken};
 ghost use Rattle.pipeline_spec.specs.Laws.ChosenSource.{toldBehind, roomBehind};
 use answers::Looked;
@@ -56,8 +56,8 @@ pub fn pronounce(
     requires { ⌜ (isLexicon (now phones) (now index) ≡ true) × (isTrees (now sounds) (now starts) (now model) ≡ true) ⌝ }
     requires { ⌜ (isSound (now store) ≡ true) × (length (now word) ≤ 47) × (length (now room) ≡ 1536) ⌝ }
     requires { ⌜ Placed (now phones) (now places) × Placed (now sounds) (now spots) ⌝ }
-    ensures { λ r. ⌜ toldPredicted r ≡ toldSpoken (pronounced (record { lexPhones = now (phones .entry); lexIndex = now (index .entry); lexData = now (dat .entry); ltsPhones = now (sounds .entry); ltsIndex = now (starts .entry); ltsModel = now (model .entry) }) (entries (now (store .entry))) (now (word .entry)) (now (tag .entry))) ⌝ }
-    ensures { λ _. ⌜ now (room .exit) ≡ cellsSpoken (pronounced (record { lexPhones = now (phones .entry); lexIndex = now (index .entry); lexData = now (dat .entry); ltsPhones = now (sounds .entry); ltsIndex = now (starts .entry); ltsModel = now (model .entry) }) (entries (now (store .entry))) (now (word .entry)) (now (tag .entry))) (now (room .entry)) ⌝ }
+    ensures { λ r. ⌜ toldPredicted r ≡ toldSpoken (pronounced (tables (now (phones .entry)) (now (index .entry)) (now (dat .entry)) (now (sounds .entry)) (now (starts .entry)) (now (model .entry))) (entries (now (store .entry))) (now (word .entry)) (now (tag .entry))) ⌝ }
+    ensures { λ _. ⌜ now (room .exit) ≡ cellsSpoken (pronounced (tables (now (phones .entry)) (now (index .entry)) (now (dat .entry)) (now (sounds .entry)) (now (starts .entry)) (now (model .entry))) (entries (now (store .entry))) (now (word .entry)) (now (tag .entry))) (now (room .entry)) ⌝ }
 {
     let looked = lexicon::find(
         phones,

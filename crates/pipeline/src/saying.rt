@@ -11,8 +11,8 @@ ghost use Rattle.lts.specs.Letters.{isTrees};
 ghost use Rattle.utterance_spec.specs.Sheet.{isSound as isSheet};
 ghost use Rattle.utterance_spec.specs.Append.{appended};
 ghost use Rattle.answers.specs.Told.{toldSaid, written};
-ghost use Rattle.pipeline_spec.specs.Pronounced.{pronounced, said as saidOf};
-ghost use Rattle.pipeline_spec.specs.Placing.{placed, onSpoken, withSpoken};
+ghost use Rattle.pipeline_spec.specs.Pronounced.{pronounced, said as saidOf, tables};
+ghost use Rattle.pipeline_spec.specs.Placing.{placed, onSpoken, sheetSpoken};
 use crate::cutting;
 use crate::pronouncing;
 use answers::Predicted;
@@ -77,8 +77,8 @@ pub fn say(
     requires { ⌜ (isLexicon (now phones) (now index) ≡ true) × (isTrees (now sounds) (now starts) (now model) ≡ true) ⌝ }
     requires { ⌜ (isSound (now store) ≡ true) × (isSheet (now sheet) ≡ true) × (length (now word) ≤ 47) × (length (now room) ≡ 1536) ⌝ }
     requires { ⌜ Placed (now phones) (now places) × Placed (now sounds) (now spots) ⌝ }
-    ensures { λ r. ⌜ toldSaid r ≡ onSpoken (now (sheet .entry)) (now (word .entry)) (pronounced (record { lexPhones = now (phones .entry); lexIndex = now (index .entry); lexData = now (dat .entry); ltsPhones = now (sounds .entry); ltsIndex = now (starts .entry); ltsModel = now (model .entry) }) (entries (now (store .entry))) (now (word .entry)) (now (tag .entry))) ⌝ }
-    ensures { λ _. ⌜ now (sheet .exit) ≡ written (onSpoken (now (sheet .entry)) (now (word .entry)) (pronounced (record { lexPhones = now (phones .entry); lexIndex = now (index .entry); lexData = now (dat .entry); ltsPhones = now (sounds .entry); ltsIndex = now (starts .entry); ltsModel = now (model .entry) }) (entries (now (store .entry))) (now (word .entry)) (now (tag .entry)))) (now (sheet .entry)) (withSpoken (now (sheet .entry)) (now (word .entry)) (pronounced (record { lexPhones = now (phones .entry); lexIndex = now (index .entry); lexData = now (dat .entry); ltsPhones = now (sounds .entry); ltsIndex = now (starts .entry); ltsModel = now (model .entry) }) (entries (now (store .entry))) (now (word .entry)) (now (tag .entry)))) ⌝ }
+    ensures { λ r. ⌜ toldSaid r ≡ onSpoken (now (sheet .entry)) (now (word .entry)) (pronounced (tables (now (phones .entry)) (now (index .entry)) (now (dat .entry)) (now (sounds .entry)) (now (starts .entry)) (now (model .entry))) (entries (now (store .entry))) (now (word .entry)) (now (tag .entry))) ⌝ }
+    ensures { λ _. ⌜ now (sheet .exit) ≡ sheetSpoken (now (sheet .entry)) (now (word .entry)) (pronounced (tables (now (phones .entry)) (now (index .entry)) (now (dat .entry)) (now (sounds .entry)) (now (starts .entry)) (now (model .entry))) (entries (now (store .entry))) (now (word .entry)) (now (tag .entry))) ⌝ }
 {
     match pronouncing::pronounce(
         phones,

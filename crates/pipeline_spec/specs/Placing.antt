@@ -9,7 +9,7 @@ use Rattle.utterance_spec.specs.Tree.{Word}
 use Rattle.utterance_spec.specs.Sheet.{used, items}
 use Rattle.utterance_spec.specs.Append.{size, appended}
 use Rattle.answers.specs.declared.Answer.{Answer}
-use Rattle.answers.specs.Told.{refused, accepted}
+use Rattle.answers.specs.Told.{refused, accepted, written}
 use Rattle.pipeline_spec.specs.Pronounced.{Spoken, barred, phones, said}
 
 -- the sheet has fewer unused items than a word needs (refusal 9)
@@ -29,3 +29,7 @@ module _ (sheet word : List ℕ) where
   abbrev pub withSpoken : Spoken → List ℕ
   withSpoken (barred n) = sheet
   withSpoken (phones ps) = appended sheet (said word ps)
+
+  -- the sheet at exit: as it was where the word is refused
+  abbrev pub sheetSpoken : Spoken → List ℕ
+  sheetSpoken s = written (onSpoken s) sheet (withSpoken s)

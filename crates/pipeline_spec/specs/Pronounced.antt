@@ -24,6 +24,11 @@ pub record Sections : Type 0 where
   pub ltsIndex : List ℕ
   pub ltsModel : List ℕ
 
+-- the six in the order in which calls take them
+abbrev pub tables : List ℕ → List ℕ → List ℕ → List ℕ → List ℕ → List ℕ → Sections
+tables lexPhones lexIndex lexData ltsPhones ltsIndex ltsModel =
+    record { lexPhones = lexPhones; lexIndex = lexIndex; lexData = lexData; ltsPhones = ltsPhones; ltsIndex = ltsIndex; ltsModel = ltsModel }
+
 -- what a word comes to: the number of a refusal, or phones
 pub data Spoken : Type 0 where
   barred : ℕ → Spoken

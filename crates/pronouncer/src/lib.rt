@@ -15,6 +15,7 @@ ghost use Rattle.add_entry.specs.AddEntry.{addEntry, storeAfter};
 ghost use Rattle.add_entries.specs.AddEntries.{addEntries, storeAfter as storeBehind, spareAfter as spareBehind};
 ghost use Rattle.new_sheet.specs.NewSheet.{newSheet, newBytes as newSheetBytes};
 ghost use Rattle.phonestring.specs.PhoneString.{phoneString, stringAfter};
+ghost use Rattle.pipeline_spec.specs.Pronounced.{tables};
 ghost use Rattle.say_word.specs.SayWord.{sayWord, sheetAfter};
 use answers::Answer;
 
@@ -146,8 +147,8 @@ pub extern "C" fn pronouncer_say_word(
     word: &[u8],
     tag: &[u8],
 ) -> Answer
-    ensures { λ r. ⌜ r ≡ sayWord (record { lexPhones = now (phones .entry); lexIndex = now (index .entry); lexData = now (dat .entry); ltsPhones = now (sounds .entry); ltsIndex = now (starts .entry); ltsModel = now (model .entry) }) (now (store .entry)) (now (sheet .entry)) (now (word .entry)) (now (tag .entry)) ⌝ }
-    ensures { λ _. ⌜ now (sheet .exit) ≡ sheetAfter (record { lexPhones = now (phones .entry); lexIndex = now (index .entry); lexData = now (dat .entry); ltsPhones = now (sounds .entry); ltsIndex = now (starts .entry); ltsModel = now (model .entry) }) (now (store .entry)) (now (sheet .entry)) (now (word .entry)) (now (tag .entry)) ⌝ }
+    ensures { λ r. ⌜ r ≡ sayWord (tables (now (phones .entry)) (now (index .entry)) (now (dat .entry)) (now (sounds .entry)) (now (starts .entry)) (now (model .entry))) (now (store .entry)) (now (sheet .entry)) (now (word .entry)) (now (tag .entry)) ⌝ }
+    ensures { λ _. ⌜ now (sheet .exit) ≡ sheetAfter (tables (now (phones .entry)) (now (index .entry)) (now (dat .entry)) (now (sounds .entry)) (now (starts .entry)) (now (model .entry))) (now (store .entry)) (now (sheet .entry)) (now (word .entry)) (now (tag .entry)) ⌝ }
 {
     answers::told_said(say_word::say_word(
         phones,

@@ -1,6 +1,7 @@
 // say word (01, Store and sheet): a word pronounced and put last on the sheet.
 ghost use mathlib.Core.Path.{_≡_};
 ghost use Rattle.answers.specs.Told.{toldSaid};
+ghost use Rattle.pipeline_spec.specs.Pronounced.{tables};
 ghost use Rattle.say_word.specs.SayWord.{sayWord, sheetAfter};
 use answers::Refusal;
 use answers::Said;
@@ -17,8 +18,8 @@ pub fn say_word(
     word: &[u8],
     tag: &[u8],
 ) -> Said
-    ensures { λ r. ⌜ toldSaid r ≡ sayWord (record { lexPhones = now (phones .entry); lexIndex = now (index .entry); lexData = now (dat .entry); ltsPhones = now (sounds .entry); ltsIndex = now (starts .entry); ltsModel = now (model .entry) }) (now (store .entry)) (now (sheet .entry)) (now (word .entry)) (now (tag .entry)) ⌝ }
-    ensures { λ _. ⌜ now (sheet .exit) ≡ sheetAfter (record { lexPhones = now (phones .entry); lexIndex = now (index .entry); lexData = now (dat .entry); ltsPhones = now (sounds .entry); ltsIndex = now (starts .entry); ltsModel = now (model .entry) }) (now (store .entry)) (now (sheet .entry)) (now (word .entry)) (now (tag .entry)) ⌝ }
+    ensures { λ r. ⌜ toldSaid r ≡ sayWord (tables (now (phones .entry)) (now (index .entry)) (now (dat .entry)) (now (sounds .entry)) (now (starts .entry)) (now (model .entry))) (now (store .entry)) (now (sheet .entry)) (now (word .entry)) (now (tag .entry)) ⌝ }
+    ensures { λ _. ⌜ now (sheet .exit) ≡ sheetAfter (tables (now (phones .entry)) (now (index .entry)) (now (dat .entry)) (now (sounds .entry)) (now (starts .entry)) (now (model .entry))) (now (store .entry)) (now (sheet .entry)) (now (word .entry)) (now (tag .entry)) ⌝ }
 {
     let mut places = [0u16; 256];
     let mut spots = [0u16; 256];

@@ -1,7 +1,7 @@
 // The entry store (01, Store and sheet): slots of 512 bytes in lent bytes, chained from slot 0 on, whose
 // own fields are first, last and used.
 mod chain;
-mod marks;
+mod hashes;
 mod sound;
 
 pub use chain::add;

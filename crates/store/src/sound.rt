@@ -8,9 +8,9 @@ ghost use Rattle.texts.specs.Lists.{some};
 ghost use Rattle.records.specs.Records.{recordAt};
 ghost use Rattle.records.specs.Chain.{chain, endOf};
 ghost use Rattle.slots_spec.specs.Slot.{entryOf};
-ghost use Rattle.store_spec.specs.Laws.Marks.{markAt};
+ghost use Rattle.store_spec.specs.Laws.Hashes.{hashAt};
 ghost use Rattle.store_spec.specs.Store.{next as nextOf, used as usedOf, entryAt, isStoreLength, isWanted, sameKey, keysDiffer, walks as walksOf, isSound};
-use crate::marks;
+use crate::hashes;
 
 // The number of the slot behind slot n; behind slot 0 stands the first.
 pub fn next(store: &[u8], n: usize) -> usize
@@ -124,20 +124,20 @@ fn has_key(store: &[u8], m: usize, p: usize, n: usize) -> bool
     false
 }
 
-// Whether one of the n slots behind p has the key of the entry in slot p, whose mark this is, where others are theirs.
-fn is_repeated(store: &[u8], p: usize, n: usize, mark: u16, others: &[u16]) -> bool
-    requires { ⌜ (p < 65536) × (mark ≡ markAt (now store) p) × (now others ≡ map (markAt (now store)) (chain (nextOf (now store)) n p)) ⌝ }
+// Whether one of the n slots behind p has the key of the entry in slot p, whose hash this is, where others are theirs.
+fn is_repeated(store: &[u8], p: usize, n: usize, hash: u16, others: &[u16]) -> bool
+    requires { ⌜ (p < 65536) × (hash ≡ hashAt (now store) p) × (now others ≡ map (hashAt (now store)) (chain (nextOf (now store)) n p)) ⌝ }
     ensures { λ r. ⌜ r ≡ some (sameKey (entryAt (now (store .entry)) p)) (map (entryAt (now (store .entry))) (chain (nextOf (now (store .entry))) n p)) ⌝ }
 {
-    if !marks::has_mark(others, mark) {
+    if !hashes::has_hash(others, hash) {
         return false;
     }
     has_key(store, p, p, n)
 }
 
-// Whether no two of the n entries behind slot 0 have one key, where these are their marks.
-fn are_apart(store: &[u8], n: usize, marks: &[u16]) -> bool
-    requires { ⌜ (length (now marks) < 65536) × (now marks ≡ map (markAt (now store)) (chain (nextOf (now store)) n 0)) ⌝ }
+// Whether no two of the n entries behind slot 0 have one key, where these are their hashes.
+fn are_apart(store: &[u8], n: usize, hashes: &[u16]) -> bool
+    requires { ⌜ (length (now hashes) < 65536) × (now hashes ≡ map (hashAt (now store)) (chain (nextOf (now store)) n 0)) ⌝ }
     ensures { λ r. ⌜ r ≡ keysDiffer (map (entryAt (now (store .entry))) (chain (nextOf (now (store .entry))) n 0)) ⌝ }
 {
     let mut p = 0;
@@ -149,7 +149,7 @@ fn are_apart(store: &[u8], n: usize, marks: &[u16]) -> bool
             return true;
         }
         left -= 1;
-        if is_repeated(store, p, left, marks[i], &marks[i + 1..]) {
+        if is_repeated(store, p, left, hashes[i], &hashes[i + 1..]) {
             return false;
         }
         i += 1;
@@ -162,9 +162,9 @@ fn keys_differ(store: &[u8], n: usize) -> bool
     requires { ⌜ n ≤ 127 ⌝ }
     ensures { λ r. ⌜ r ≡ keysDiffer (map (entryAt (now (store .entry))) (chain (nextOf (now (store .entry))) n 0)) ⌝ }
 {
-    let mut marks = [0u16; 127];
-    let count = marks::put_marks(&mut marks, store, n);
-    are_apart(store, n, &marks[0..count])
+    let mut hashes = [0u16; 127];
+    let count = hashes::put_hashes(&mut hashes, store, n);
+    are_apart(store, n, &hashes[0..count])
 }
 
 // Whether a store is sound.

@@ -9,4 +9,4 @@ pub mod Known
 pub mod Found
 pub mod Placed
 pub mod Turns
-pub mod Marks
+pub mod Hashes

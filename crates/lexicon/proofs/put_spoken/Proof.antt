@@ -1,5 +1,5 @@
 -- `lexicon::put_spoken` meets its contract: after i phones, out is what pasting i cells leaves. Assumes nothing.
-use Rattle.compiled_spec.specs.Entries.{numbersOf, phonesOf as spokenOf, length-spoken, spoken-at, number-in, spoken-fits}
+use Rattle.compiled_spec.specs.Entries.{numbersOf, entryPhones, length-spoken, spoken-at, number-in, spoken-fits}
 use Rattle.cells.specs.Cells.{cellsOf, cell, cells-turn, cells-front}
 use Rattle.data.specs.Sections.{tablePhones}
 use Rattle.data.specs.Places.{PhoneAt, Placed, phone-placed}
@@ -18,7 +18,7 @@ use Rattle.lexicon.proofs.put_spoken.Tie as tie
 
 abbrev Inv-loop : tie.InvT-loop
 Inv-loop phones places s out₀ numbers i₀ out i =
-    (numbers ≡ numbersOf s) × (i ≤ length numbers) × (out ≡ paste out₀ 0 (cellsOf (spokenOf phones s)) (16 * i)) × (length out ≡ length out₀)
+    (numbers ≡ numbersOf s) × (i ≤ length numbers) × (out ≡ paste out₀ 0 (cellsOf (entryPhones phones s)) (16 * i)) × (length out ≡ length out₀)
 
 abbrev μ-loop : tie.MeasureT-loop
 μ-loop phones places s out₀ numbers i₀ out i = length numbers - i
@@ -29,7 +29,7 @@ numbers-requires c κs = search needs
 loop-holds : tie.Need-loop-holds Inv-loop μ-loop
 loop-holds c =
     let a = c .before .before .before .before .before .args in
-    (c .numbers .ensures, zero-le, paste-zero (a .out .now) 0 (cellsOf (spokenOf (a .phones .now) (a .s .now))), refl)
+    (c .numbers .ensures, zero-le, paste-zero (a .out .now) 0 (cellsOf (entryPhones (a .phones .now) (a .s .now))), refl)
 
 shared-slice-read-wide : tie.Need-shared-slice-read-wide Inv-loop μ-loop
 shared-slice-read-wide c = search needs
@@ -60,7 +60,7 @@ placed c =
 phone-at-requires : tie.Need-phone-at-requires Inv-loop μ-loop
 phone-at-requires c κs = placed (c .before .before) .fit
 
-phone-is : (c : tie.After-phone-at Inv-loop μ-loop) → c .phone-at .result .now ≡ getD (spokenOf (c .before .before .before .before .before .before .before .before .before .before .before .before .args .phones .now) (c .before .before .before .before .before .before .before .before .before .before .before .before .args .s .now)) (c .before .before .before .before .before .before .loop .i) []
+phone-is : (c : tie.After-phone-at Inv-loop μ-loop) → c .phone-at .result .now ≡ getD (entryPhones (c .before .before .before .before .before .before .before .before .before .before .before .before .args .phones .now) (c .before .before .before .before .before .before .before .before .before .before .before .before .args .s .now)) (c .before .before .before .before .before .before .loop .i) []
 phone-is c =
     let a = c .before .before .before .before .before .before .before .before .before .before .before .before .args in
     let w = c .before .before .before in
@@ -89,7 +89,7 @@ loop-again c =
     let l = length-spoken (a .phones .now) (a .s .now) in
     let n = inside (c .before .before .before .before .before .before) in
     let e = ap (λ (l : List ℕ). length l) (r .inv .0) in
-    let ps = spokenOf (a .phones .now) (a .s .now) in
+    let ps = entryPhones (a .phones .now) (a .s .now) in
     let p : List ℕ = getD ps (r .i) [] in
     let t = cells-turn (a .out .now) ps 0 (r .i) (spoken-fits (a .phones .now) (a .s .now) (q .pre .1 .0) (q .pre .1 .1)) (omega arith) (omega (arith, q .pre .1 .2)) in
     let u : putRecord 16 (paste (a .out .now) 0 (cellsOf ps) (16 * r .i)) (r .i) (cell p) ≡ paste (a .out .now) 0 (cellsOf ps) (16 * (r .i + 1)) =
@@ -105,7 +105,7 @@ returns c =
     let a = p .args in
     let l = length-spoken (a .phones .now) (a .s .now) in
     let e = ap (λ (l : List ℕ). length l) (c .before .loop .inv .0) in
-    c .before .loop .inv .2 ∙ cells-front (a .out .now) (spokenOf (a .phones .now) (a .s .now)) (c .before .loop .i) (spoken-fits (a .phones .now) (a .s .now) (p .pre .1 .0) (p .pre .1 .1)) (omega arith)
+    c .before .loop .inv .2 ∙ cells-front (a .out .now) (entryPhones (a .phones .now) (a .s .now)) (c .before .loop .i) (spoken-fits (a .phones .now) (a .s .now) (p .pre .1 .0) (p .pre .1 .1)) (omega arith)
 
 pub put-spoken-spec : {M : Type 1} → statement M
 put-spoken-spec =

@@ -22,7 +22,7 @@ use Rattle.data.specs.Sections.{isPhoneTable, tablePhones, length-table, table-
 use Rattle.slots_spec.specs.Slot.{Entry, fits, fits-parts, entryOf, slot, isSlot}
 use Rattle.store_spec.specs.Store.{entryAt, entries, isWanted}
 use Rattle.store_spec.specs.Sound.{Slot, Sound, entries-are}
-use Rattle.compiled_spec.specs.Entries.{entryAt as compiledAt, numbersOf, phonesOf, isSpoken}
+use Rattle.compiled_spec.specs.Entries.{entryAt as compiledAt, numbersOf, entryPhones, isSpoken}
 use Rattle.compiled_spec.specs.Search.{chosen}
 use Rattle.compiled_spec.specs.declared.Chosen.{Chosen}
 use Rattle.compiled_spec.specs.declared.Chosen.the-variants.{Damaged as entryDamaged, Missing, Entry as At}
@@ -72,7 +72,7 @@ numbers-fit table [] t = refl
 numbers-fit table (n ∷ ns) t = rw (table-phone table n t) (numbers-fit table ns t)
 
 chosen-fit : (table index dat : List ℕ) (o : Chosen) → isPhoneTable table ≡ true → Fit (onChosen table index dat o)
-unfolding phonesOf
+unfolding entryPhones
 chosen-fit table index dat entryDamaged t = tt
 chosen-fit table index dat Missing t = tt
 chosen-fit table index dat (At i) t =

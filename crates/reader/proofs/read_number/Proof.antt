@@ -22,4 +22,4 @@ read-number-spec 𝓤 H 𝓜 𝓖 𝓡 =
     entered 𝓤 H (tripleOf 𝓤 H (𝓖 .A) read-number.signature (read-number.spec 𝓤 H (𝓖 .A) (𝓜 .mem) (𝓡 .run)))
     (tables 𝓤 H 𝓜 𝓡 code.env .C) (tables 𝓤 H 𝓜 𝓡 code.env .Λ) name code.function (code.unfolded 𝓤 H 𝓜 𝓡)
     (taking.meets S.the-row numberAt S′.mir number-at.name 𝓤 H (𝓖 .A) W (λ r u is. EL.lawful S.the-type S′.the-laws 𝓤 H (𝓖 .A) W tt .typed r _ is .0) (tablesOf 𝓤 H 𝓜 (tables 𝓤 H 𝓜 𝓡 code.env))
-    (cited 𝓤 H (OnSlice S.the-row numberAt 𝓤 H (𝓖 .A)) 𝓜 𝓡 code.env number-at.name number-at.routine code.calls-data·reader·number-at (number-at-thm.met 𝓤 H 𝓜 𝓖 𝓡)))
+    (cited 𝓤 H (OnSlice S.the-row numberAt 𝓤 H (𝓖 .A)) 𝓜 𝓡 code.env number-at.name number-at.routine code.calls-reader·number-at (number-at-thm.met 𝓤 H 𝓜 𝓖 𝓡)))

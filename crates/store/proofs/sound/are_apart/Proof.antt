@@ -8,29 +8,29 @@ use Rattle.records.specs.Records.{part-from}
 use Rattle.records.specs.Chain.{chain}
 use Rattle.store_spec.specs.Laws.Turns.{keys-turn, keys-hit, keys-stop, keys-end}
 use Rattle.store_spec.specs.Store.{next, entryAt, keysDiffer}
-use Rattle.store_spec.specs.Laws.Marks.{markAt, marks-turn}
+use Rattle.store_spec.specs.Laws.Hashes.{hashAt, hashes-turn}
 use borrow.Author.Needs.{needs}
 use Rattle.store.proofs.sound.are_apart.Statement.{statement}
 use Rattle.store.proofs.sound.are_apart.Tie as tie
 
 abbrev Inv-loop : tie.InvT-loop
-Inv-loop store n marks p₀ i₀ left₀ p i left =
+Inv-loop store n hashes p₀ i₀ left₀ p i left =
     (keysDiffer (map (entryAt store) (chain (next store) n 0)) ≡ keysDiffer (map (entryAt store) (chain (next store) left p)))
     × (p < 65536)
-    × (drop i marks ≡ map (markAt store) (chain (next store) left p))
+    × (drop i hashes ≡ map (hashAt store) (chain (next store) left p))
 
 abbrev μ-loop : tie.MeasureT-loop
-μ-loop store n marks p₀ i₀ left₀ p i left = left
+μ-loop store n hashes p₀ i₀ left₀ p i left = left
 
--- the mark of the slot that is reached, and those behind it
+-- the hash of the slot that is reached, and those behind it
 turn : (c : tie.Else1 Inv-loop μ-loop)
-    → (c .before .before .before .loop .i < length (c .before .before .before .before .before .before .args .marks .now))
-    × (getD (c .before .before .before .before .before .before .args .marks .now) (c .before .before .before .loop .i) 0 ≡ markAt (c .before .before .before .before .before .before .args .store .now) (c .before .next .result))
-    × (drop (c .before .before .before .loop .i + 1) (c .before .before .before .before .before .before .args .marks .now) ≡ map (markAt (c .before .before .before .before .before .before .args .store .now)) (chain (next (c .before .before .before .before .before .before .args .store .now)) (c .before .before .before .loop .left - 1) (c .before .next .result)))
+    → (c .before .before .before .loop .i < length (c .before .before .before .before .before .before .args .hashes .now))
+    × (getD (c .before .before .before .before .before .before .args .hashes .now) (c .before .before .before .loop .i) 0 ≡ hashAt (c .before .before .before .before .before .before .args .store .now) (c .before .next .result))
+    × (drop (c .before .before .before .loop .i + 1) (c .before .before .before .before .before .before .args .hashes .now) ≡ map (hashAt (c .before .before .before .before .before .before .args .store .now)) (chain (next (c .before .before .before .before .before .before .args .store .now)) (c .before .before .before .loop .left - 1) (c .before .next .result)))
 turn c =
     let l = c .before .before .before .loop in
     let b = c .before .before .before .before .before .before .args .store .now in
-    marks-turn (next b) (markAt b) (c .before .before .before .before .before .before .args .marks .now) (l .i) (l .left) (l .p) (c .before .next .result) (l .inv .2) (omega arith) (c .before .next .ensures .0) (c .if1 .left)
+    hashes-turn (next b) (hashAt b) (c .before .before .before .before .before .before .args .hashes .now) (l .i) (l .left) (l .p) (c .before .next .result) (l .inv .2) (omega arith) (c .before .next .ensures .0) (c .if1 .left)
 
 loop-holds : tie.Need-loop-holds Inv-loop μ-loop
 loop-holds c = (refl, omega arith, c .before .before .pre .1)
@@ -71,7 +71,7 @@ part-is-repeated-end c = omega (arith, turn (c .before) .0)
 is-repeated-requires : tie.Need-is-repeated-requires Inv-loop μ-loop
 is-repeated-requires c κs =
     let t = turn (c .before .before) in
-    (c .before .before .before .next .ensures .1, t .1, part-from (c .before .before .before .before .before .loop .i + 1) (c .before .before .before .before .before .before .before .before .args .marks .now) ∙ t .2)
+    (c .before .before .before .next .ensures .1, t .1, part-from (c .before .before .before .before .before .loop .i + 1) (c .before .before .before .before .before .before .before .before .args .hashes .now) ∙ t .2)
 
 returns-2 : tie.Need-returns-2 Inv-loop μ-loop
 returns-2 c =

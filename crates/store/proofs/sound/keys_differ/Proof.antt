@@ -1,4 +1,4 @@
--- `store::keys_differ` meets its contract: the marks that are written are those of the entries. Assumes nothing.
+-- `store::keys_differ` meets its contract: the hashes that are written are those of the entries. Assumes nothing.
 use Prim.Native.Nat.{ℕ, _-_}
 use native.Mathlib.Omega.{arith}
 use mathlib.Core.Path.{_≡_, ap, _∙_}
@@ -7,11 +7,11 @@ use borrow.Author.Needs.{needs}
 use Rattle.store.proofs.sound.keys_differ.Statement.{statement}
 use Rattle.store.proofs.sound.keys_differ.Tie as tie
 
-slice-aggregate-put-marks : tie.Need-slice-aggregate-put-marks
-slice-aggregate-put-marks c = search needs
+slice-aggregate-put-hashes : tie.Need-slice-aggregate-put-hashes
+slice-aggregate-put-hashes c = search needs
 
-put-marks-requires : tie.Need-put-marks-requires
-put-marks-requires c κs = search needs
+put-hashes-requires : tie.Need-put-hashes-requires
+put-hashes-requires c κs = search needs
 
 sub-are-apart : tie.Need-sub-are-apart
 sub-are-apart c = search needs
@@ -24,11 +24,11 @@ part-are-apart-end c = search needs
 
 are-apart-requires : tie.Need-are-apart-requires
 are-apart-requires c κs =
-    let r = c .before .before .before .put-marks .result in
-    let s = c .before .before .before .put-marks .last .0 in
+    let r = c .before .before .before .put-hashes .result in
+    let s = c .before .before .before .put-hashes .last .0 in
     let e : r - 0 ≡ r = omega arith in
     let t = length-take (r - 0) s in
-    (omega (arith, t, c .before .before .before .put-marks .ensures .0, c .before .before .before .put-marks .kept .0), ap (λ (k : ℕ). take k s) e ∙ c .before .before .before .put-marks .ensures .1)
+    (omega (arith, t, c .before .before .before .put-hashes .ensures .0, c .before .before .before .put-hashes .kept .0), ap (λ (k : ℕ). take k s) e ∙ c .before .before .before .put-hashes .ensures .1)
 
 returns : tie.Need-returns
 returns c = search needs
@@ -37,8 +37,8 @@ pub keys-differ-spec : {M : Type 1} → statement M
 keys-differ-spec =
     tie.close
     (tie.spec
-    slice-aggregate-put-marks
-    put-marks-requires
+    slice-aggregate-put-hashes
+    put-hashes-requires
     sub-are-apart
     part-are-apart-start
     part-are-apart-end

@@ -1,4 +1,4 @@
--- `store::has_mark` meets its contract: the mark was found among those passed, or is among those left. Assumes nothing.
+-- `store::has_hash` meets its contract: the hash was found among those passed, or is among those left. Assumes nothing.
 use Prim.Native.Nat.{_+_, _-_, _≤_}
 use native.Mathlib.Omega.{arith}
 use mathlib.Core.Path.{_≡_, refl, sym, ap, _∙_}
@@ -7,16 +7,16 @@ use mathlib.Core.Logic.{inl, inr}
 use lib.ListN.{length}
 use Rattle.texts.specs.Lists.{some}
 use Rattle.texts.specs.Text.{is}
-use Rattle.store_spec.specs.Laws.Marks.{someLeft, some-met, some-passed, some-left}
+use Rattle.store_spec.specs.Laws.Hashes.{someLeft, some-met, some-passed, some-left}
 use borrow.Author.Needs.{needs}
-use Rattle.store.proofs.marks.has_mark.Statement.{statement}
-use Rattle.store.proofs.marks.has_mark.Tie as tie
+use Rattle.store.proofs.hashes.has_hash.Statement.{statement}
+use Rattle.store.proofs.hashes.has_hash.Tie as tie
 
 abbrev Inv-loop : tie.InvT-loop
-Inv-loop marks m found₀ i₀ found i = (i ≤ length marks) × (some (is m) marks ≡ someLeft m marks found i)
+Inv-loop hashes m found₀ i₀ found i = (i ≤ length hashes) × (some (is m) hashes ≡ someLeft m hashes found i)
 
 abbrev μ-loop : tie.MeasureT-loop
-μ-loop marks m found₀ i₀ found i = length marks - i
+μ-loop hashes m found₀ i₀ found i = length hashes - i
 
 loop-holds : tie.Need-loop-holds Inv-loop μ-loop
 unfolding someLeft
@@ -37,7 +37,7 @@ loop-less c = omega arith
 loop-again : tie.Need-loop-again Inv-loop μ-loop
 loop-again c =
     let l = c .before .before .before .loop in
-    let s = c .before .before .before .before .args .marks .now in
+    let s = c .before .before .before .before .args .hashes .now in
     let m = c .before .before .before .before .args .m in
     elim (c .if1 .came) [
       | inl h ↦ (omega arith, l .inv .1 ∙ some-met m s (l .found) (l .i) (omega arith) (h .0 .taken) ∙ ap (λ (t : Bool). someLeft m s t (l .i + 1)) (sym (h .1)))
@@ -47,10 +47,10 @@ loop-again c =
 returns : tie.Need-returns Inv-loop μ-loop
 returns c =
     let l = c .before .loop in
-    sym (l .inv .1 ∙ some-left (c .before .before .args .m) (c .before .before .args .marks .now) (l .found) (l .i) (omega arith))
+    sym (l .inv .1 ∙ some-left (c .before .before .args .m) (c .before .before .args .hashes .now) (l .found) (l .i) (omega arith))
 
-pub has-mark-spec : {M : Type 1} → statement M
-has-mark-spec =
+pub has-hash-spec : {M : Type 1} → statement M
+has-hash-spec =
     tie.close
     (tie.spec
     Inv-loop

@@ -8,12 +8,12 @@ ghost use Rattle.texts.specs.Text.{is};
 ghost use Rattle.records.specs.Chain.{chain};
 ghost use Rattle.slots_spec.specs.Slot.{entryOf};
 ghost use Rattle.store_spec.specs.Store.{next as nextOf};
-ghost use Rattle.store_spec.specs.Laws.Marks.{markOf, markAt};
+ghost use Rattle.store_spec.specs.Laws.Hashes.{hashOf, hashAt};
 use crate::sound;
 
-// The mark of the key of the entry in a slot.
-fn mark(slot: &[u8]) -> u16
-    ensures { λ r. ⌜ r ≡ markOf (entryOf (now (slot .entry))) ⌝ }
+// The hash of the key of the entry in a slot.
+fn hash(slot: &[u8]) -> u16
+    ensures { λ r. ⌜ r ≡ hashOf (entryOf (now (slot .entry))) ⌝ }
 {
     let word = slots::word(slot);
     let mut h = slots::tag(slot) as u32;
@@ -25,10 +25,10 @@ fn mark(slot: &[u8]) -> u16
     h as u16
 }
 
-// The marks of the n entries behind slot 0 into marks; how many there are.
-pub fn put_marks(marks: &mut [u16], store: &[u8], n: usize) -> usize
-    requires { ⌜ (n ≤ length (now marks)) × (n < 65536) ⌝ }
-    ensures { λ r. ⌜ (r ≤ length (now (marks .exit))) × (take r (now (marks .exit)) ≡ map (markAt (now (store .entry))) (chain (nextOf (now (store .entry))) n 0)) ⌝ }
+// The hashes of the n entries behind slot 0 into hashes; how many there are.
+pub fn put_hashes(hashes: &mut [u16], store: &[u8], n: usize) -> usize
+    requires { ⌜ (n ≤ length (now hashes)) × (n < 65536) ⌝ }
+    ensures { λ r. ⌜ (r ≤ length (now (hashes .exit))) × (take r (now (hashes .exit)) ≡ map (hashAt (now (store .entry))) (chain (nextOf (now (store .entry))) n 0)) ⌝ }
 {
     let mut p = 0;
     let mut j = 0;
@@ -38,21 +38,21 @@ pub fn put_marks(marks: &mut [u16], store: &[u8], n: usize) -> usize
         if p == 0 {
             return j;
         }
-        marks[j] = mark(sound::slot(store, p));
+        hashes[j] = hash(sound::slot(store, p));
         j += 1;
         left -= 1;
     }
     j
 }
 
-// Whether a mark stands in a list.
-pub fn has_mark(marks: &[u16], m: u16) -> bool
-    ensures { λ r. ⌜ r ≡ some (is m) (now (marks .entry)) ⌝ }
+// Whether a hash stands in a list.
+pub fn has_hash(hashes: &[u16], m: u16) -> bool
+    ensures { λ r. ⌜ r ≡ some (is m) (now (hashes .entry)) ⌝ }
 {
     let mut found = false;
     let mut i = 0;
-    while i < marks.len() {
-        if marks[i] == m {
+    while i < hashes.len() {
+        if hashes[i] == m {
             found = true;
         }
         i += 1;

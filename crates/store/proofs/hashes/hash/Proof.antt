@@ -1,16 +1,16 @@
--- `store::mark` meets its contract: after i bytes, those left are mixed into h. Assumes nothing.
+-- `store::hash` meets its contract: after i bytes, those left are mixed into h. Assumes nothing.
 use Prim.Native.Nat.{_-_, _≤_, _<_}
 use native.Mathlib.Omega.{arith}
 use mathlib.Core.Path.{_≡_, sym, _∙_}
 use lib.ListN.{length, drop}
 use Rattle.slots_spec.specs.Slot.{entryOf}
-use Rattle.store_spec.specs.Laws.Marks.{mixed, markOf, mixed-turn, mixed-end}
+use Rattle.store_spec.specs.Laws.Hashes.{mixed, hashOf, mixed-turn, mixed-end}
 use borrow.Author.Needs.{needs}
-use Rattle.store.proofs.marks.mark.Statement.{statement}
-use Rattle.store.proofs.marks.mark.Tie as tie
+use Rattle.store.proofs.hashes.hash.Statement.{statement}
+use Rattle.store.proofs.hashes.hash.Tie as tie
 
 abbrev Inv-loop : tie.InvT-loop
-Inv-loop slot word h₀ i₀ h i = (i ≤ length word) × (h < 65536) × (markOf (entryOf slot) ≡ mixed h (drop i word))
+Inv-loop slot word h₀ i₀ h i = (i ≤ length word) × (h < 65536) × (hashOf (entryOf slot) ≡ mixed h (drop i word))
 
 abbrev μ-loop : tie.MeasureT-loop
 μ-loop slot word h₀ i₀ h i = length word - i
@@ -25,7 +25,7 @@ cast-h : tie.Need-cast-h Inv-loop μ-loop
 cast-h c = search needs
 
 loop-holds : tie.Need-loop-holds Inv-loop μ-loop
-unfolding markOf
+unfolding hashOf
 loop-holds c = (omega arith, omega arith, rw (c .before .word .ensures, c .tag .ensures))
 
 mul-h : tie.Need-mul-h Inv-loop μ-loop
@@ -59,8 +59,8 @@ returns c =
     let l = c .before .loop in
     sym (l .inv .2 ∙ mixed-end (l .h) (c .before .before .before .word .result .now) (l .i) (omega arith))
 
-pub mark-spec : {M : Type 1} → statement M
-mark-spec =
+pub hash-spec : {M : Type 1} → statement M
+hash-spec =
     tie.close
     (tie.spec
     Inv-loop

@@ -1,4 +1,4 @@
--- A number for each key, by which most keys are told apart: entries of one key have one mark.
+-- A number for each key, by which most keys are told apart: entries of one key have one hash.
 -- Assumes nothing.
 use Prim.Native.Nat.{ℕ, suc, _+_, _-_, _*_, _%_, _≤_, _<_}
 use native.Mathlib.Numerals.{add-one}
@@ -25,13 +25,13 @@ unfoldable pub mixed : ℕ → List ℕ → ℕ
 mixed h [] = h
 mixed h (x ∷ xs) = mixed ((31 * h + x) % 65536) xs
 
--- the mark of an entry's key
-unfoldable pub markOf : Entry → ℕ
-markOf e = mixed (e .tag) (e .word)
+-- the hash of an entry's key
+unfoldable pub hashOf : Entry → ℕ
+hashOf e = mixed (e .tag) (e .word)
 
 -- that of the entry in slot n
-unfoldable pub markAt : List ℕ → ℕ → ℕ
-markAt b n = markOf (entryAt b n)
+unfoldable pub hashAt : List ℕ → ℕ → ℕ
+hashAt b n = hashOf (entryAt b n)
 
 pub mixed-turn : (h : ℕ) (w : List ℕ) (i : ℕ) → i < length w → mixed h (drop i w) ≡ mixed ((31 * h + getD w i 0) % 65536) (drop (i + 1) w)
 unfolding mixed
@@ -41,21 +41,21 @@ pub mixed-end : (h : ℕ) (w : List ℕ) (i : ℕ) → length w ≤ i → mixed 
 unfolding mixed
 mixed-end h w i l = rw (drop-of-length-le w l)
 
-same-mark : (a b : Entry) → sameKey a b ≡ true → markOf b ≡ markOf a
-unfolding markOf
-same-mark a b h = let k = key-true a b h in rw (k .0, k .1)
+same-hash : (a b : Entry) → sameKey a b ≡ true → hashOf b ≡ hashOf a
+unfolding hashOf
+same-hash a b h = let k = key-true a b h in rw (k .0, k .1)
 
--- a key whose mark stands nowhere in a list stands nowhere in it
-pub unmarked : (b : List ℕ) (n : ℕ) (l : List ℕ) → some (is (markAt b n)) (map (markAt b) l) ≡ false → some (sameKey (entryAt b n)) (map (entryAt b) l) ≡ false
-unfolding some is markAt
-unmarked b n [] h = refl
-unmarked b n (x ∷ xs) h =
-    let s = either-false (eqb (markAt b x) (markAt b n)) (some (is (markAt b n)) (map (markAt b) xs)) h in
+-- a key whose hash stands nowhere in a list stands nowhere in it
+pub hash-absent : (b : List ℕ) (n : ℕ) (l : List ℕ) → some (is (hashAt b n)) (map (hashAt b) l) ≡ false → some (sameKey (entryAt b n)) (map (entryAt b) l) ≡ false
+unfolding some is hashAt
+hash-absent b n [] h = refl
+hash-absent b n (x ∷ xs) h =
+    let s = either-false (eqb (hashAt b x) (hashAt b n)) (some (is (hashAt b n)) (map (hashAt b) xs)) h in
     let k : sameKey (entryAt b n) (entryAt b x) ≡ false =
-    is-false (sameKey (entryAt b n) (entryAt b x)) (λ e. never (eqb (markAt b x) (markAt b n)) (eq-eqb (markAt b x) (markAt b n) (same-mark (entryAt b n) (entryAt b x) e)) (s .0)) in
-    rw (k, unmarked b n xs (s .1))
+    is-false (sameKey (entryAt b n) (entryAt b x)) (λ e. never (eqb (hashAt b x) (hashAt b n)) (eq-eqb (hashAt b x) (hashAt b n) (same-hash (entryAt b n) (entryAt b x) e)) (s .0)) in
+    rw (k, hash-absent b n xs (s .1))
 
--- a mark sought in a list without stopping at it
+-- a hash sought in a list without stopping at it
 unfoldable pub someLeft : ℕ → List ℕ → Bool → ℕ → Bool
 someLeft m l found i = found || some (is m) (drop i l)
 
@@ -80,24 +80,24 @@ module _ (m : ℕ) (l : List ℕ) (found : Bool) (i : ℕ) where
       go true = refl
       go false = refl
 
--- marks along a chain: read one by one, and written one by one
-module _ (f g : ℕ → ℕ) (marks : List ℕ) where
-  pub marks-turn : (i left p q : ℕ) → drop i marks ≡ map g (chain f left p) → 0 < left → q ≡ f p → q ≢ 0
-      → (i < length marks) × (getD marks i 0 ≡ g q) × (drop (i + 1) marks ≡ map g (chain f (left - 1) q))
-  marks-turn i left p q e h eq n =
-      let t : drop i marks ≡ g q ∷ map g (chain f (left - 1) q) = e ∙ ap (λ (l : List ℕ). map g l) (chain-turn f left p q h eq n) in
-      let l : length marks - i ≡ suc (length (map g (chain f (left - 1) q))) = sym (length-drop i marks) ∙ ap (λ (l : List ℕ). length l) t in
+-- hashes along a chain: read one by one, and written one by one
+module _ (f g : ℕ → ℕ) (hashes : List ℕ) where
+  pub hashes-turn : (i left p q : ℕ) → drop i hashes ≡ map g (chain f left p) → 0 < left → q ≡ f p → q ≢ 0
+      → (i < length hashes) × (getD hashes i 0 ≡ g q) × (drop (i + 1) hashes ≡ map g (chain f (left - 1) q))
+  hashes-turn i left p q e h eq n =
+      let t : drop i hashes ≡ g q ∷ map g (chain f (left - 1) q) = e ∙ ap (λ (l : List ℕ). map g l) (chain-turn f left p q h eq n) in
+      let l : length hashes - i ≡ suc (length (map g (chain f (left - 1) q))) = sym (length-drop i hashes) ∙ ap (λ (l : List ℕ). length l) t in
       let z : i + 0 ≡ i = omega arith in (
         omega arith,
-        ap (λ (k : ℕ). getD marks k 0) (sym z) ∙ sym (getD-drop i marks 0 0) ∙ ap (λ (l : List ℕ). getD l 0 0) t,
-        sym (drop-drop 1 i marks) ∙ ap (λ (l : List ℕ). drop 1 l) t,
+        ap (λ (k : ℕ). getD hashes k 0) (sym z) ∙ sym (getD-drop i hashes 0 0) ∙ ap (λ (l : List ℕ). getD l 0 0) t,
+        sym (drop-drop 1 i hashes) ∙ ap (λ (l : List ℕ). drop 1 l) t,
       )
 
-  pub marked-turn : (all : List ℕ) (j left p q v : ℕ) → take j marks ++ map g (chain f left p) ≡ all → j < length marks → 0 < left → q ≡ f p → q ≢ 0 → v ≡ g q
-      → take (j + 1) (set marks j v) ++ map g (chain f (left - 1) q) ≡ all
-  marked-turn all j left p q v e l h eq n ev =
+  pub hashed-turn : (all : List ℕ) (j left p q v : ℕ) → take j hashes ++ map g (chain f left p) ≡ all → j < length hashes → 0 < left → q ≡ f p → q ≢ 0 → v ≡ g q
+      → take (j + 1) (set hashes j v) ++ map g (chain f (left - 1) q) ≡ all
+  hashed-turn all j left p q v e l h eq n ev =
       let t : map g (chain f left p) ≡ g q ∷ map g (chain f (left - 1) q) = ap (λ (l : List ℕ). map g l) (chain-turn f left p q h eq n) in
-      rw (front-byte marks (take j marks) j v l refl, append-assoc (take j marks) (v ∷ []) (map g (chain f (left - 1) q)), ev, ← t) e
+      rw (front-byte hashes (take j hashes) j v l refl, append-assoc (take j hashes) (v ∷ []) (map g (chain f (left - 1) q)), ev, ← t) e
 
-  pub marked-end : (all : List ℕ) (j left p : ℕ) → take j marks ++ map g (chain f left p) ≡ all → chain f left p ≡ [] → take j marks ≡ all
-  marked-end all j left p e z = sym (append-nil (take j marks)) ∙ ap (λ (l : List ℕ). take j marks ++ map g l) (sym z) ∙ e
+  pub hashed-end : (all : List ℕ) (j left p : ℕ) → take j hashes ++ map g (chain f left p) ≡ all → chain f left p ≡ [] → take j hashes ≡ all
+  hashed-end all j left p e z = sym (append-nil (take j hashes)) ∙ ap (λ (l : List ℕ). take j hashes ++ map g l) (sym z) ∙ e
