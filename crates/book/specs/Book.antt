@@ -27,7 +27,7 @@ pub record Heard : Type 0 where
   pub refused : Bool
 
 module _ (c : Sections) where
-  -- the word that was said
+  -- the word that was said; one that is barred is refused, and puts nothing
   abbrev pub onSpoken : List ℕ → Spoken → List Word
   onSpoken word (barred n) = []
   onSpoken word (phones ps) = said word ps ∷ []

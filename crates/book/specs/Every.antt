@@ -1,4 +1,4 @@
--- 01, demand 3: one claim about every list of calls. The sheet that a list leaves reads as the book of what was accepted.
+-- 01, demand 3: one claim about every list of calls. The store that a list leaves holds the entries, and the sheet tells the words, of the book of what was accepted.
 -- Each call keeps store and sheet sound and in step with the book, and a list of calls is its calls in turn.
 -- Assumes nothing.
 use Prim.Native.Nat.{ℕ, _+_}
@@ -43,7 +43,7 @@ use Rattle.pipeline_spec.specs.Laws.Sources.{entries-fit}
 use Rattle.pipeline_spec.specs.Laws.Fits.{pronounced-fits}
 use Rattle.book.specs.MayStand.{phones-said}
 use Rattle.book.specs.WellCut.{WellCut, said-cut}
-use Rattle.book.specs.Claim.{Each, Tells, tells}
+use Rattle.book.specs.Claim.{Each, Holds, Tells, holds, tells}
 
 each-last : (P : Word → Type 0) (ws : List Word) (w : Word) → Each P ws → P w → Each P (ws ++ (w ∷ []))
 each-last P [] w h k = (k, tt)
@@ -123,7 +123,9 @@ module _ (c : Sections) (s : State) (k : Book) (a : Agrees s k) where
       let t = passed c (s .store) (s .sheet) word tag r in
       let z : sheetAfter c (s .store) (s .sheet) word tag ≡ withSpoken (s .sheet) word (pronounced c (entries (s .store)) word tag) = unfold sheetAfter in rw e in
       let y : pronounced c (entries (s .store)) word tag ≡ pronounced c (k .entries) word tag = ap (λ (es : List Entry). pronounced c es word tag) (a .entries) in
-      rw (e, z, sym y) (heard word tag (pronounced c (entries (s .store)) word tag) refl t (sym (ap (λ (x : Answer). x .refusal) (t .answer)) ∙ r)))
+      let g : Agrees (record { store = s .store; sheet = sheetAfter c (s .store) (s .sheet) word tag }) (accepts c (saysWord word tag) k) =
+      rw (z, sym y) (heard word tag (pronounced c (entries (s .store)) word tag) refl t (sym (ap (λ (x : Answer). x .refusal) (t .answer)) ∙ r)) in
+      rw e g)
       (λ e. let z : sheetAfter c (s .store) (s .sheet) word tag ≡ s .sheet = unfold sheetAfter in rw e in
       rw (e, z) a)
 
@@ -148,7 +150,10 @@ begins store sheet l h =
 
 -- for every list of calls, every set of sections, and every store and sheet as new store and new sheet leave them, their other bytes arbitrary
 pub every-list : (c : Sections) (store sheet : List ℕ) → isStoreLength (length store) ≡ true → isSheetLength (length sheet) ≡ true → (calls : List Made)
-    → Tells (leaves c calls (fresh store sheet) .sheet) (keeps c (hears c calls (fresh store sheet)) empty .words)
+    → Holds (leaves c calls (fresh store sheet) .store) (keeps c (hears c calls (fresh store sheet)) empty .entries)
+    × Tells (leaves c calls (fresh store sheet) .sheet) (keeps c (hears c calls (fresh store sheet)) empty .words)
 every-list c store sheet l h calls =
-    let a = in-turn c calls (fresh store sheet) empty (begins store sheet l h) in
-    tells (leaves c calls (fresh store sheet) .sheet) (keeps c (hears c calls (fresh store sheet)) empty .words) (a .sheet) (a .words) (a .cut)
+    let a = in-turn c calls (fresh store sheet) empty (begins store sheet l h) in (
+      holds (leaves c calls (fresh store sheet) .store) (keeps c (hears c calls (fresh store sheet)) empty .entries) (a .store) (a .entries),
+      tells (leaves c calls (fresh store sheet) .sheet) (keeps c (hears c calls (fresh store sheet)) empty .words) (a .sheet) (a .words) (a .cut),
+    )

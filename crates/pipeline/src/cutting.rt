@@ -5,6 +5,7 @@ ghost use mathlib.Core.List.{map, _++_};
 ghost use Prim.Native.Nat.{_*_, _/_, _≤_};
 ghost use lib.Dec.{eqb};
 ghost use lib.ListN.{length, drop};
+ghost use Rattle.texts.specs.Choice.{if_then_else_};
 ghost use Rattle.cells.specs.Cells.{phonesOf, cellsOf};
 ghost use Rattle.phoneset.specs.Stress.{digits, bare as bareOf};
 ghost use Rattle.onsets.specs.Onsets.{onsets};

@@ -4,7 +4,7 @@ ghost use mathlib.Core.Bool.{false, _||_};
 ghost use mathlib.Core.List.{[], _++_};
 ghost use Prim.Native.Nat.{_/_, _<_, _≤_};
 ghost use lib.ListN.{length, getD, take, drop};
-ghost use Rattle.texts.specs.Choice.{bit};
+ghost use Rattle.texts.specs.Choice.{if_then_else_, bit};
 ghost use Rattle.texts.specs.Lists.{place};
 ghost use Rattle.cells.specs.Cells.{phonesOf};
 ghost use Rattle.phoneset.specs.Phones.{isVowel};
