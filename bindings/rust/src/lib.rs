@@ -44,6 +44,8 @@
 //! | `say_word` | [`Sheet::say_word`] |
 //! | `phone_string` | [`Sheet::phone_string`] |
 //!
+//! With the feature `std` the crate also reads a folder of sections (`Tables`); else it is `no_std`.
+//!
 //! The layout of sections, store and sheet is told in `docs/FORMATS.md`. The library links into x86-64
 //! programs.
 
@@ -51,6 +53,9 @@
 #![forbid(unsafe_op_in_unsafe_fn)]
 #![deny(unsafe_code)]
 #![warn(missing_docs)]
+
+#[cfg(feature = "std")]
+extern crate std;
 
 // The example of bindings/README.md runs as a test, too.
 #[cfg(doctest)]
@@ -65,12 +70,16 @@ mod refusal;
 mod sections;
 mod sheet;
 mod store;
+#[cfg(feature = "std")]
+mod tables;
 
 pub use phones::{is_vowel, split_stress, PhoneList};
 pub use refusal::{Refusal, Refused};
 pub use sections::{Found, Letters, Lexicon, Sayable, Source};
 pub use sheet::{Sheet, Syllable, Word};
 pub use store::Store;
+#[cfg(feature = "std")]
+pub use tables::{read_section, Tables, TablesError, SECTION_NAMES};
 
 /// Bytes of a slot of the store.
 pub const SLOT_BYTES: usize = 512;
