@@ -52,7 +52,7 @@
 #![no_std]
 #![forbid(unsafe_op_in_unsafe_fn)]
 #![deny(unsafe_code)]
-#![warn(missing_docs)]
+#![warn(missing_docs, missing_debug_implementations)]
 
 #[cfg(feature = "std")]
 extern crate std;
@@ -62,9 +62,11 @@ extern crate std;
 #[doc = include_str!("../../README.md")]
 struct Readme;
 
+mod entries;
 pub mod example;
 #[allow(unsafe_code)]
 mod foreign;
+mod items;
 mod phones;
 mod refusal;
 mod sections;
@@ -72,14 +74,17 @@ mod sheet;
 mod store;
 #[cfg(feature = "std")]
 mod tables;
+mod unsound;
 
-pub use phones::{is_vowel, split_stress, PhoneList};
+pub use entries::{Entries, Entry};
+pub use phones::{is_vowel, split_stress, ListedPhones, PhoneList, Stress};
 pub use refusal::{Refusal, Refused};
 pub use sections::{Found, Letters, Lexicon, Sayable, Source};
-pub use sheet::{Sheet, Syllable, Word};
+pub use sheet::{Phones, Sheet, Syllable, Syllables, Word, Words};
 pub use store::Store;
 #[cfg(feature = "std")]
 pub use tables::{read_section, Tables, TablesError, SECTION_NAMES};
+pub use unsound::Unsound;
 
 /// Bytes of a slot of the store.
 pub const SLOT_BYTES: usize = 512;
