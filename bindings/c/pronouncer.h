@@ -90,8 +90,8 @@ struct pronouncer_answer {
 /* Whether a lexicon is whole.
  *
  * phones, index, data: lex.phones, lex.index, lex.data.
- * Answer: kind 1 if no entry is damaged, every phone number has a phone and words don't fall; else
- * kind 0.
+ * Answer: kind 1 if no entry is damaged, every phone number has a phone and the words are in the
+ * order of their bytes; else kind 0.
  * Refusals:
  *   1  lex.phones or lex.index breaks its form
  * Writes nothing.

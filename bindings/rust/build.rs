@@ -1,12 +1,13 @@
-//! Finds libpronouncer.a: in the folder that PRONOUNCER_LIB names, else where `rt staticlib` leaves it.
+//! Finds libpronouncer.a: in the folder that PRONOUNCER_LIB names, else where `rt staticlib` leaves it. A relative path
+//! is seen from the top of the repository.
 
 use std::env;
 use std::path::PathBuf;
 
 fn main() {
     let here = PathBuf::from(env::var_os("CARGO_MANIFEST_DIR").expect("cargo names the package"));
-    let told = env::var_os("PRONOUNCER_LIB").unwrap_or("../../target/staticlib".into());
-    let folder = here.join(told);
+    let told = env::var_os("PRONOUNCER_LIB").unwrap_or("target/staticlib".into());
+    let folder = here.join("../..").join(told);
     let library = folder.join("libpronouncer.a");
 
     println!("cargo::rerun-if-env-changed=PRONOUNCER_LIB");

@@ -1,41 +1,21 @@
 //! Says words with the example's tables, or with a folder of sections, and prints their syllables.
 //!
-//!     cargo run --example say -- lead gobo
-//!     SECTIONS=folder cargo run --example say -- lead gobo
-//!
-//! The folder holds the files lex.phones, lex.index, lex.data, lts.phones, lts.index and lts.model.
+//!     cargo run --features std --example say -- lead gobo
+//!     SECTIONS=folder cargo run --features std --example say -- lead gobo
 
-use pronouncer::{example, Letters, Lexicon, Sheet, Store, ITEM_BYTES, SLOT_BYTES};
+use pronouncer::{example, Letters, Lexicon, Sheet, Store, Tables, ITEM_BYTES, SLOT_BYTES};
+use std::env;
 use std::error::Error;
-use std::{env, fs};
 
 fn main() -> Result<(), Box<dyn Error>> {
     let words: Vec<String> = env::args().skip(1).collect();
-    let Some(folder) = env::var_os("SECTIONS") else {
-        return say(&example::LEXICON, &example::LETTERS, &words);
-    };
-    let section = |name: &str| fs::read(std::path::Path::new(&folder).join(name));
-    let (phones, index, data) = (
-        section("lex.phones")?,
-        section("lex.index")?,
-        section("lex.data")?,
-    );
-    let lexicon = Lexicon {
-        phones: &phones,
-        index: &index,
-        data: &data,
-    };
-    let (phones, index, model) = (
-        section("lts.phones")?,
-        section("lts.index")?,
-        section("lts.model")?,
-    );
-    let letters = Letters {
-        phones: &phones,
-        index: &index,
-        model: &model,
-    };
-    say(&lexicon, &letters, &words)
+    match env::var_os("SECTIONS") {
+        None => say(&example::LEXICON, &example::LETTERS, &words),
+        Some(folder) => {
+            let tables = Tables::read(folder)?;
+            say(&tables.lexicon(), &tables.letters(), &words)
+        }
+    }
 }
 
 fn say(lexicon: &Lexicon, letters: &Letters, words: &[String]) -> Result<(), Box<dyn Error>> {
@@ -50,10 +30,10 @@ fn say(lexicon: &Lexicon, letters: &Letters, words: &[String]) -> Result<(), Box
             eprintln!("{word}: {refused}");
         }
     }
-    for word in sheet.words() {
+    for word in &sheet {
         let syllables = word.syllables().map(|syllable| {
             let phones: Vec<&str> = syllable.phones().collect();
-            format!("{} {}", phones.join(" "), char::from(syllable.stress()))
+            format!("{} {}", phones.join(" "), syllable.stress())
         });
         println!(
             "{}: {}",

@@ -26,6 +26,7 @@ impl Answer {
             number => Err(Refused {
                 refusal: Refusal::of_number(number),
                 line: self.value as usize,
+                unsound: None,
             }),
         }
     }

@@ -44,33 +44,47 @@
 //! | `say_word` | [`Sheet::say_word`] |
 //! | `phone_string` | [`Sheet::phone_string`] |
 //!
+//! With the feature `std` the crate also reads a folder of sections (`Tables`); else it is `no_std`.
+//!
 //! The layout of sections, store and sheet is told in `docs/FORMATS.md`. The library links into x86-64
 //! programs.
 
 #![no_std]
 #![forbid(unsafe_op_in_unsafe_fn)]
 #![deny(unsafe_code)]
-#![warn(missing_docs)]
+#![warn(missing_docs, missing_debug_implementations)]
+
+#[cfg(feature = "std")]
+extern crate std;
 
 // The example of bindings/README.md runs as a test, too.
 #[cfg(doctest)]
 #[doc = include_str!("../../README.md")]
 struct Readme;
 
+mod entries;
 pub mod example;
 #[allow(unsafe_code)]
 mod foreign;
+mod items;
 mod phones;
 mod refusal;
 mod sections;
 mod sheet;
 mod store;
+#[cfg(feature = "std")]
+mod tables;
+mod unsound;
 
-pub use phones::{is_vowel, split_stress, PhoneList};
+pub use entries::{Entries, Entry};
+pub use phones::{is_vowel, split_stress, ListedPhones, PhoneList, Stress};
 pub use refusal::{Refusal, Refused};
 pub use sections::{Found, Letters, Lexicon, Sayable, Source};
-pub use sheet::{Sheet, Syllable, Word};
+pub use sheet::{Phones, Sheet, Syllable, Syllables, Word, Words};
 pub use store::Store;
+#[cfg(feature = "std")]
+pub use tables::{read_section, Tables, TablesError, SECTION_NAMES};
+pub use unsound::Unsound;
 
 /// Bytes of a slot of the store.
 pub const SLOT_BYTES: usize = 512;

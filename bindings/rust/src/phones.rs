@@ -1,4 +1,6 @@
 use core::fmt;
+use core::iter::FusedIterator;
+use core::slice::ChunksExact;
 
 use crate::refusal::{Refusal, Refused};
 use crate::{foreign, CELL_BYTES, PHONE_BYTES};
@@ -31,20 +33,22 @@ impl<'a> PhoneList<'a> {
 
     /// Writes the phones of a text, which stand between blanks, into lent bytes, 16 a phone.
     ///
-    /// Refused, with the bytes left as they were: [`Text`](Refusal::Text) for a text that is not ASCII,
+    /// # Errors
+    ///
+    /// With the bytes left as they were: [`Text`](Refusal::Text) for a text that is not ASCII,
     /// [`Phones`](Refusal::Phones) for a phone over 15 bytes, [`Short`](Refusal::Short) where the bytes are
     /// too few.
     pub fn write(text: &str, room: &'a mut [u8]) -> Result<PhoneList<'a>, Refused> {
         let phones = text.split_ascii_whitespace();
         if !text.is_ascii() {
-            return Err(Refused::by(Refusal::Text));
+            return Err(Refusal::Text.into());
         }
         if phones.clone().any(|phone| phone.len() > PHONE_BYTES) {
-            return Err(Refused::by(Refusal::Phones));
+            return Err(Refusal::Phones.into());
         }
         let count = phones.clone().count();
         if room.len() / CELL_BYTES < count {
-            return Err(Refused::by(Refusal::Short));
+            return Err(Refusal::Short.into());
         }
         for (cell, phone) in room.chunks_exact_mut(CELL_BYTES).zip(phones) {
             cell.fill(0);
@@ -72,10 +76,8 @@ impl<'a> PhoneList<'a> {
     }
 
     /// The phones' texts in order. In bytes that no call would accept, a text ends before what is not UTF-8.
-    pub fn iter(&self) -> impl Iterator<Item = &'a str> + Clone {
-        self.cells
-            .chunks_exact(CELL_BYTES)
-            .map(|cell| text(&cell[1..], cell[0], PHONE_BYTES))
+    pub fn iter(&self) -> ListedPhones<'a> {
+        ListedPhones(self.cells.chunks_exact(CELL_BYTES))
     }
 
     /// Marks where syllables end: a byte for each phone, 1 behind the last of a syllable, else 0. The marks
@@ -83,8 +85,10 @@ impl<'a> PhoneList<'a> {
     ///
     /// The phones are bare, without stress: see [`split_stress`].
     ///
-    /// Refused: [`Text`](Refusal::Text), [`Phones`](Refusal::Phones) for over 96 phones or a phone over 15
-    /// bytes, [`Short`](Refusal::Short) where the bytes lent for the marks are too few.
+    /// # Errors
+    ///
+    /// [`Text`](Refusal::Text), [`Phones`](Refusal::Phones) for over 96 phones or a phone over 15 bytes,
+    /// [`Short`](Refusal::Short) where the bytes lent for the marks are too few.
     ///
     /// ```
     /// use pronouncer::PhoneList;
@@ -97,6 +101,44 @@ impl<'a> PhoneList<'a> {
     pub fn syllabify<'m>(&self, marks: &'m mut [u8]) -> Result<&'m [u8], Refused> {
         let count = foreign::syllabify(self.cells, marks).accepted()?.count();
         Ok(&marks[..count])
+    }
+}
+
+/// The phones' texts in order.
+impl<'a> IntoIterator for &PhoneList<'a> {
+    type Item = &'a str;
+    type IntoIter = ListedPhones<'a>;
+
+    fn into_iter(self) -> ListedPhones<'a> {
+        self.iter()
+    }
+}
+
+/// The texts of the phones of a [`PhoneList`] in order.
+#[derive(Clone)]
+pub struct ListedPhones<'a>(ChunksExact<'a, u8>);
+
+impl<'a> Iterator for ListedPhones<'a> {
+    type Item = &'a str;
+
+    fn next(&mut self) -> Option<&'a str> {
+        let cell = self.0.next()?;
+        Some(text(&cell[1..], cell[0], PHONE_BYTES))
+    }
+
+    fn size_hint(&self) -> (usize, Option<usize>) {
+        self.0.size_hint()
+    }
+}
+
+impl ExactSizeIterator for ListedPhones<'_> {}
+
+impl FusedIterator for ListedPhones<'_> {}
+
+/// What is still to come.
+impl fmt::Debug for ListedPhones<'_> {
+    fn fmt(&self, f: &mut fmt::Formatter<'_>) -> fmt::Result {
+        f.debug_list().entries(self.clone()).finish()
     }
 }
 
@@ -113,7 +155,47 @@ impl fmt::Display for PhoneList<'_> {
 
 impl fmt::Debug for PhoneList<'_> {
     fn fmt(&self, f: &mut fmt::Formatter<'_>) -> fmt::Result {
-        f.debug_list().entries(self.iter()).finish()
+        self.iter().fmt(f)
+    }
+}
+
+/// How a syllable, or a vowel, is stressed. It says its digit.
+///
+/// ```
+/// use pronouncer::Stress;
+///
+/// assert_eq!((Stress::Unstressed.to_string(), Stress::Stressed.to_string()), ("0".into(), "1".into()));
+/// ```
+#[derive(Debug, Clone, Copy, PartialEq, Eq, Hash)]
+#[non_exhaustive]
+pub enum Stress {
+    /// "0"
+    Unstressed,
+    /// "1"
+    Stressed,
+}
+
+impl Stress {
+    /// The digit behind a phone, and of a syllable on the sheet: `'0'` or `'1'`.
+    pub fn digit(self) -> char {
+        match self {
+            Stress::Unstressed => '0',
+            Stress::Stressed => '1',
+        }
+    }
+
+    pub(crate) fn of_digit(digit: u8) -> Option<Stress> {
+        match digit {
+            b'0' => Some(Stress::Unstressed),
+            b'1' => Some(Stress::Stressed),
+            _ => None,
+        }
+    }
+}
+
+impl fmt::Display for Stress {
+    fn fmt(&self, f: &mut fmt::Formatter<'_>) -> fmt::Result {
+        self.digit().fmt(f)
     }
 }
 
@@ -131,17 +213,14 @@ pub fn is_vowel(phone: &str) -> bool {
 /// A phone without its stress, and the stress: the last "0" or "1", if it has one. Beyond the eleven calls.
 ///
 /// ```
-/// use pronouncer::split_stress;
+/// use pronouncer::{split_stress, Stress};
 ///
-/// assert_eq!(split_stress("ae1"), ("ae", Some(b'1')));
+/// assert_eq!(split_stress("ae1"), ("ae", Some(Stress::Stressed)));
 /// assert_eq!(split_stress("ae2"), ("ae2", None));
 /// ```
-pub fn split_stress(phone: &str) -> (&str, Option<u8>) {
+pub fn split_stress(phone: &str) -> (&str, Option<Stress>) {
     let answer = foreign::split_stress(phone.as_bytes());
-    let stress = match answer.kind {
-        0 => None,
-        digit => Some(digit as u8),
-    };
+    let stress = u8::try_from(answer.kind).ok().and_then(Stress::of_digit);
     (phone.get(..answer.count()).unwrap_or(phone), stress)
 }
 

@@ -1,6 +1,8 @@
 use core::error::Error;
 use core::fmt;
 
+use crate::unsound::Unsound;
+
 /// Why a call was refused. The lowest [number](Refusal::number) that applies is told.
 ///
 /// ```
@@ -118,30 +120,42 @@ impl Refusal {
     }
 }
 
-/// A refused call: why, and in which line. Nothing that was lent to the call was altered, but for the spare
+/// A refused call: why, and in which line. It says what is wrong and what to do. Nothing that was lent to the call was altered, but for the spare
 /// of [`Store::add_entries`](crate::Store::add_entries).
 ///
 /// ```
-/// use pronouncer::{Refusal, Refused};
+/// use pronouncer::{example, Refusal, Store};
 ///
-/// let refused = Refused { refusal: Refusal::Line, line: 7 };
+/// let (mut slots, mut spare) = ([0; 512], [0; 512]);
+/// let mut store = Store::new_store(&mut slots)?;
+/// let refused = store.add_entries(&example::LEXICON, &mut spare, "# names\niris ay1 r ih0 s").unwrap_err();
+/// assert_eq!((refused.refusal, refused.line), (Refusal::Line, 2));
 /// assert_eq!(
 ///     refused.to_string(),
-///     "line 7: the line has no colon, or no word before it (refusal 4); \
+///     "line 2: the line has no colon, or no word before it (refusal 4); \
 ///      write WORD TAG : PHONE PHONE, or begin the line with # if it is a remark"
 /// );
+/// # Ok::<(), pronouncer::Refused>(())
 /// ```
 #[derive(Debug, Clone, Copy, PartialEq, Eq, Hash)]
+#[non_exhaustive]
 pub struct Refused {
     /// Why.
     pub refusal: Refusal,
     /// The line of the text of entries that is at fault, counted from 1; 0 where no line is.
     pub line: usize,
+    /// Of a refusal by [`Unsound`](Refusal::Unsound), which cause it has.
+    pub unsound: Option<Unsound>,
 }
 
-impl Refused {
-    pub(crate) fn by(refusal: Refusal) -> Refused {
-        Refused { refusal, line: 0 }
+/// Without a line.
+impl From<Refusal> for Refused {
+    fn from(refusal: Refusal) -> Refused {
+        Refused {
+            refusal,
+            line: 0,
+            unsound: None,
+        }
     }
 }
 
@@ -150,14 +164,15 @@ impl fmt::Display for Refused {
         if self.line > 0 {
             write!(f, "line {}: ", self.line)?;
         }
-        let refusal = self.refusal;
-        write!(
-            f,
-            "{} (refusal {}); {}",
-            refusal.cause(),
-            refusal.number(),
-            refusal.cure()
-        )
+        match self.unsound {
+            Some(unsound) => unsound.fmt(f)?,
+            None => f.write_str(self.refusal.cause())?,
+        }
+        let cure = match self.unsound {
+            Some(unsound) => unsound.cure(),
+            None => self.refusal.cure(),
+        };
+        write!(f, " (refusal {}); {cure}", self.refusal.number())
     }
 }
 

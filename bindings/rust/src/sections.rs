@@ -1,7 +1,9 @@
+use core::fmt;
+
 use crate::phones::PhoneList;
 use crate::refusal::Refused;
 use crate::store::Store;
-use crate::{foreign, CELL_BYTES};
+use crate::{foreign, unsound, CELL_BYTES};
 
 /// The three sections of a compiled lexicon. They may hold any bytes; each call sees for itself that it can
 /// read them.
@@ -36,7 +38,12 @@ pub struct Sayable<'a> {
 }
 
 /// Where a pronunciation was found.
+///
+/// ```
+/// assert_eq!(pronouncer::Source::Runtime.to_string(), "runtime");
+/// ```
 #[derive(Debug, Clone, Copy, PartialEq, Eq, Hash)]
+#[non_exhaustive]
 pub enum Source {
     /// In the store, where it was added.
     Runtime,
@@ -66,6 +73,17 @@ impl Source {
     }
 }
 
+/// `runtime`, `addenda` or `compiled`.
+impl fmt::Display for Source {
+    fn fmt(&self, f: &mut fmt::Formatter<'_>) -> fmt::Result {
+        f.write_str(match self {
+            Source::Runtime => "runtime",
+            Source::Addenda => "addenda",
+            Source::Compiled => "compiled",
+        })
+    }
+}
+
 /// A pronunciation that was found.
 #[derive(Debug, Clone, Copy)]
 pub struct Found<'o> {
@@ -76,11 +94,13 @@ pub struct Found<'o> {
 }
 
 impl<'a> Lexicon<'a> {
-    /// Whether the lexicon is whole: no entry is damaged, every phone number has a phone, and words don't
-    /// fall. Ask it once of tables that somebody else made; without it each call still sees damage where it
-    /// meets it.
+    /// Whether the lexicon is whole: no entry is damaged, every phone number has a phone, and the words are
+    /// in the order of their bytes. Ask it once of tables that somebody else made; without it each call still
+    /// sees damage where it meets it.
     ///
-    /// Refused: [`Section`](crate::Refusal::Section).
+    /// # Errors
+    ///
+    /// [`Section`](crate::Refusal::Section).
     ///
     /// ```
     /// use pronouncer::{example, Lexicon, Refusal};
@@ -105,7 +125,9 @@ impl<'a> Lexicon<'a> {
     /// Of a tag the first byte counts, and none is "0". The store and the library's table take any entry when
     /// either tag is "0"; the lexicon prefers the exact tag. Only the store takes "Cat" for "cat".
     ///
-    /// Refused: [`Section`](crate::Refusal::Section), [`Unsound`](crate::Refusal::Unsound) for the store,
+    /// # Errors
+    ///
+    /// [`Section`](crate::Refusal::Section), [`Unsound`](crate::Refusal::Unsound) for the store,
     /// [`Text`](crate::Refusal::Text), [`Damaged`](crate::Refusal::Damaged),
     /// [`Phones`](crate::Refusal::Phones) for a compiled entry of over 96 phones,
     /// [`Short`](crate::Refusal::Short) for `out`.
@@ -130,7 +152,8 @@ impl<'a> Lexicon<'a> {
         out: &'o mut [u8],
     ) -> Result<Option<Found<'o>>, Refused> {
         let (word, tag) = (word.as_ref(), tag.as_ref());
-        let answer = foreign::lookup(self.sections(), store.bytes(), word, tag, out).accepted()?;
+        let answer = foreign::lookup(self.sections(), store.bytes(), word, tag, out)
+            .accepted_on(|| unsound::in_store(store.bytes()))?;
         Ok(Source::of_number(answer.kind).map(|source| Found {
             source,
             phones: PhoneList::from_cells(&out[..CELL_BYTES * answer.count()]),
@@ -148,7 +171,9 @@ impl<'a> Letters<'a> {
     ///
     /// Only the letters behind the word's last "#" are read.
     ///
-    /// Refused: [`Section`](crate::Refusal::Section), [`Text`](crate::Refusal::Text),
+    /// # Errors
+    ///
+    /// [`Section`](crate::Refusal::Section), [`Text`](crate::Refusal::Text),
     /// [`Damaged`](crate::Refusal::Damaged), [`Short`](crate::Refusal::Short).
     ///
     /// ```
@@ -177,7 +202,9 @@ impl<'a> Letters<'a> {
 impl Sayable<'_> {
     /// Whether a word can be said as one; else it is better spelled letter by letter.
     ///
-    /// Refused: [`Section`](crate::Refusal::Section), [`Text`](crate::Refusal::Text).
+    /// # Errors
+    ///
+    /// [`Section`](crate::Refusal::Section), [`Text`](crate::Refusal::Text).
     ///
     /// ```
     /// use pronouncer::example;
@@ -189,5 +216,43 @@ impl Sayable<'_> {
     pub fn is_sayable(&self, word: impl AsRef<[u8]>) -> Result<bool, Refused> {
         let answer = foreign::is_sayable(self.prefix, self.suffix, word.as_ref()).accepted()?;
         Ok(answer.kind == 1)
+    }
+}
+
+/// Writes sections by their lengths.
+fn lengths(f: &mut fmt::Formatter<'_>, name: &str, sections: &[(&str, &[u8])]) -> fmt::Result {
+    let mut told = f.debug_struct(name);
+    for (field, section) in sections {
+        told.field(field, &format_args!("{} bytes", section.len()));
+    }
+    told.finish()
+}
+
+impl fmt::Debug for Lexicon<'_> {
+    fn fmt(&self, f: &mut fmt::Formatter<'_>) -> fmt::Result {
+        let sections = [
+            ("phones", self.phones),
+            ("index", self.index),
+            ("data", self.data),
+        ];
+        lengths(f, "Lexicon", &sections)
+    }
+}
+
+impl fmt::Debug for Letters<'_> {
+    fn fmt(&self, f: &mut fmt::Formatter<'_>) -> fmt::Result {
+        let sections = [
+            ("phones", self.phones),
+            ("index", self.index),
+            ("model", self.model),
+        ];
+        lengths(f, "Letters", &sections)
+    }
+}
+
+impl fmt::Debug for Sayable<'_> {
+    fn fmt(&self, f: &mut fmt::Formatter<'_>) -> fmt::Result {
+        let sections = [("prefix", self.prefix), ("suffix", self.suffix)];
+        lengths(f, "Sayable", &sections)
     }
 }

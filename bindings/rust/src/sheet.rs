@@ -1,11 +1,14 @@
 use core::fmt;
+use core::iter::FusedIterator;
 
 use crate::foreign;
-use crate::phones;
+use crate::items::{Chain, Items, PHONE, STRESS, SYLLABLE, WORD};
+use crate::phones::Stress;
 use crate::refusal::Refused;
 use crate::sections::{Letters, Lexicon};
 use crate::store::Store;
-use crate::{ITEM_BYTES, LARGEST_BYTES, PHONE_BYTES, WORD_BYTES};
+use crate::unsound;
+use crate::{PHONE_BYTES, WORD_BYTES};
 
 /// A sheet in lent bytes: the words said so far, with their syllables and phones.
 ///
@@ -22,14 +25,15 @@ use crate::{ITEM_BYTES, LARGEST_BYTES, PHONE_BYTES, WORD_BYTES};
 ///     sheet.say_word(&example::LEXICON, &example::LETTERS, &store, word, "")?;
 /// }
 ///
-/// for word in sheet.words() {
+/// for word in &sheet {
 ///     println!("{}", word.text());
 ///     for syllable in word.syllables() {
 ///         let phones: Vec<&str> = syllable.phones().collect();
-///         println!("  {} with stress {}", phones.join(" "), char::from(syllable.stress()));
+///         println!("  {} with stress {}", phones.join(" "), syllable.stress());
 ///     }
 /// }
 /// assert_eq!(sheet.phones().collect::<Vec<&str>>(), ["l", "eh", "d", "k", "ae", "t"]);
+/// assert_eq!(format!("{sheet:?}"), "[lead[l eh d 1], cat[k ae t 1]]");
 /// # Ok::<(), pronouncer::Refused>(())
 /// ```
 pub struct Sheet<'a> {
@@ -39,9 +43,11 @@ pub struct Sheet<'a> {
 impl<'a> Sheet<'a> {
     /// Begins a sheet without words, in bytes that may hold anything. Only the first 64 are written.
     ///
-    /// Refused: [`Unsound`](crate::Refusal::Unsound) if there are not 64 to 65,536 bytes.
+    /// # Errors
+    ///
+    /// [`Unsound`](crate::Refusal::Unsound) if there are not 64 to 65,536 bytes.
     pub fn new_sheet(bytes: &'a mut [u8]) -> Result<Sheet<'a>, Refused> {
-        foreign::new_sheet(bytes).accepted()?;
+        foreign::new_sheet(bytes).accepted_on(|| unsound::in_sheet(bytes))?;
         Ok(Sheet { bytes })
     }
 
@@ -54,8 +60,10 @@ impl<'a> Sheet<'a> {
     /// Says a word: puts it last, with the phones that [`Lexicon::lookup`] finds, or else
     /// [`Letters::predict`] tells, cut into syllables.
     ///
-    /// Refused: [`Section`](crate::Refusal::Section) for any of the six, [`Unsound`](crate::Refusal::Unsound)
-    /// for store or sheet, [`Text`](crate::Refusal::Text), [`Damaged`](crate::Refusal::Damaged),
+    /// # Errors
+    ///
+    /// [`Section`](crate::Refusal::Section) for any of the six, [`Unsound`](crate::Refusal::Unsound) for
+    /// store or sheet, [`Text`](crate::Refusal::Text), [`Damaged`](crate::Refusal::Damaged),
     /// [`Phones`](crate::Refusal::Phones) for a compiled entry of over 96 phones,
     /// [`Short`](crate::Refusal::Short) where fewer items are unused than the word needs: one, one for each
     /// syllable and one for each phone.
@@ -69,14 +77,19 @@ impl<'a> Sheet<'a> {
     ) -> Result<(), Refused> {
         let (word, tag) = (word.as_ref(), tag.as_ref());
         let (lexicon, letters) = (lexicon.sections(), letters.sections());
-        foreign::say_word(lexicon, letters, store.bytes(), self.bytes, word, tag).accepted()?;
+        let answer = foreign::say_word(lexicon, letters, store.bytes(), self.bytes, word, tag);
+        answer.accepted_on(|| {
+            unsound::in_store(store.bytes()).or_else(|| unsound::in_sheet(self.bytes))
+        })?;
         Ok(())
     }
 
     /// Writes all phones of the sheet in order, with one blank between two, into `out`.
     ///
-    /// Refused: [`Unsound`](crate::Refusal::Unsound), [`Short`](crate::Refusal::Short) where `out` has fewer
-    /// bytes than the string.
+    /// # Errors
+    ///
+    /// [`Unsound`](crate::Refusal::Unsound), [`Short`](crate::Refusal::Short) where `out` has fewer bytes
+    /// than the string.
     ///
     /// ```
     /// use pronouncer::{example, Sheet, Store};
@@ -89,7 +102,10 @@ impl<'a> Sheet<'a> {
     /// # Ok::<(), pronouncer::Refused>(())
     /// ```
     pub fn phone_string<'o>(&self, out: &'o mut [u8]) -> Result<&'o str, Refused> {
-        let count = foreign::phone_string(self.bytes, out).accepted()?.count();
+        let answer = foreign::phone_string(self.bytes, out);
+        let count = answer
+            .accepted_on(|| unsound::in_sheet(self.bytes))?
+            .count();
         // A sound sheet's texts are ASCII.
         Ok(core::str::from_utf8(&out[..count]).unwrap_or(""))
     }
@@ -97,15 +113,13 @@ impl<'a> Sheet<'a> {
     /// The words in order.
     ///
     /// Over bytes that are no sound sheet it gives what it can follow; it meets no item twice, so it ends.
-    pub fn words(&self) -> impl Iterator<Item = Word<'_>> + Clone {
-        let items = Items::of(self.bytes);
-        Chain::children(items, 0, WORD).map(move |at| Word { items, at })
+    pub fn words(&self) -> Words<'_> {
+        Words(Chain::children(Items::of(self.bytes), 0, WORD))
     }
 
     /// All phones in order, over all words, without their stress.
-    pub fn phones(&self) -> impl Iterator<Item = &str> + Clone {
-        let items = Items::of(self.bytes);
-        Chain::phones(items).map(move |at| items.text(at, PHONE_BYTES))
+    pub fn phones(&self) -> Phones<'_> {
+        Phones(Chain::phones(Items::of(self.bytes)))
     }
 
     /// The bytes.
@@ -116,6 +130,16 @@ impl<'a> Sheet<'a> {
     /// Gives the bytes back.
     pub fn into_bytes(self) -> &'a mut [u8] {
         self.bytes
+    }
+}
+
+/// The words in order.
+impl<'s> IntoIterator for &'s Sheet<'_> {
+    type Item = Word<'s>;
+    type IntoIter = Words<'s>;
+
+    fn into_iter(self) -> Words<'s> {
+        self.words()
     }
 }
 
@@ -133,9 +157,8 @@ impl<'s> Word<'s> {
     }
 
     /// Its syllables in order; none if it has no phones.
-    pub fn syllables(&self) -> impl Iterator<Item = Syllable<'s>> + Clone {
-        let items = self.items;
-        Chain::children(items, self.at, SYLLABLE).map(move |at| Syllable { items, at })
+    pub fn syllables(&self) -> Syllables<'s> {
+        Syllables(Chain::children(self.items, self.at, SYLLABLE))
     }
 }
 
@@ -147,28 +170,74 @@ pub struct Syllable<'s> {
 }
 
 impl<'s> Syllable<'s> {
-    /// Its stress: `b'1'` if it is stressed, `b'0'` if not.
-    pub fn stress(&self) -> u8 {
-        self.items.byte(self.at, STRESS)
+    /// Its stress. (A byte that is none, which no sound sheet has, is read as unstressed.)
+    pub fn stress(&self) -> Stress {
+        Stress::of_digit(self.items.byte(self.at, STRESS)).unwrap_or(Stress::Unstressed)
     }
 
     /// Its phones in order, without their stress.
-    pub fn phones(&self) -> impl Iterator<Item = &'s str> + Clone {
-        let items = self.items;
-        Chain::children(items, self.at, PHONE).map(move |at| items.text(at, PHONE_BYTES))
+    pub fn phones(&self) -> Phones<'s> {
+        Phones(Chain::children(self.items, self.at, PHONE))
     }
 }
 
+/// The words of a [`Sheet`] in order.
+#[derive(Clone)]
+pub struct Words<'s>(Chain<'s>);
+
+impl<'s> Iterator for Words<'s> {
+    type Item = Word<'s>;
+
+    fn next(&mut self) -> Option<Word<'s>> {
+        let at = self.0.next()?;
+        let items = self.0.items;
+        Some(Word { items, at })
+    }
+}
+
+impl FusedIterator for Words<'_> {}
+
+/// The syllables of a [`Word`] in order.
+#[derive(Clone)]
+pub struct Syllables<'s>(Chain<'s>);
+
+impl<'s> Iterator for Syllables<'s> {
+    type Item = Syllable<'s>;
+
+    fn next(&mut self) -> Option<Syllable<'s>> {
+        let at = self.0.next()?;
+        let items = self.0.items;
+        Some(Syllable { items, at })
+    }
+}
+
+impl FusedIterator for Syllables<'_> {}
+
+/// The phones of a [`Syllable`], or of a whole [`Sheet`], in order.
+#[derive(Clone)]
+pub struct Phones<'s>(Chain<'s>);
+
+impl<'s> Iterator for Phones<'s> {
+    type Item = &'s str;
+
+    fn next(&mut self) -> Option<&'s str> {
+        let at = self.0.next()?;
+        Some(self.0.items.text(at, PHONE_BYTES))
+    }
+}
+
+impl FusedIterator for Phones<'_> {}
+
 impl fmt::Debug for Sheet<'_> {
     fn fmt(&self, f: &mut fmt::Formatter<'_>) -> fmt::Result {
-        f.debug_list().entries(self.words()).finish()
+        self.words().fmt(f)
     }
 }
 
 impl fmt::Debug for Word<'_> {
     fn fmt(&self, f: &mut fmt::Formatter<'_>) -> fmt::Result {
-        write!(f, "{}", self.text())?;
-        f.debug_list().entries(self.syllables()).finish()
+        f.write_str(self.text())?;
+        self.syllables().fmt(f)
     }
 }
 
@@ -177,131 +246,27 @@ impl fmt::Debug for Syllable<'_> {
         for phone in self.phones() {
             write!(f, "{phone} ")?;
         }
-        write!(f, "{}", char::from(self.stress()))
+        write!(f, "{}", self.stress())
     }
 }
 
-// Kinds of items, and the places of their fields.
-const WORD: u8 = 1;
-const SYLLABLE: u8 = 2;
-const PHONE: u8 = 3;
-const KIND: usize = 0;
-const STRESS: usize = 1;
-const NEXT: usize = 2;
-const FIRST_CHILD: usize = 4;
-const PARENT: usize = 8;
-const USED: usize = 8;
-const NEXT_PHONE: usize = 12;
-const TEXT_LENGTH: usize = 16;
-const TEXT: usize = 17;
-
-/// How many items a sheet has at most, the first among them.
-const MOST_ITEMS: usize = LARGEST_BYTES / ITEM_BYTES;
-
-/// The items of a sheet that are used, item 0 in front; any bytes will do.
-#[derive(Clone, Copy)]
-struct Items<'s>(&'s [u8]);
-
-impl<'s> Items<'s> {
-    fn of(bytes: &'s [u8]) -> Items<'s> {
-        let lent = (bytes.len() / ITEM_BYTES).min(MOST_ITEMS);
-        let used = if lent == 0 {
-            0
-        } else {
-            Items(bytes).field(0, USED) + 1
-        };
-        Items(&bytes[..ITEM_BYTES * used.min(lent)])
-    }
-
-    fn has(self, at: usize) -> bool {
-        at > 0 && at < self.0.len() / ITEM_BYTES
-    }
-
-    fn byte(self, at: usize, place: usize) -> u8 {
-        self.0[ITEM_BYTES * at + place]
-    }
-
-    fn field(self, at: usize, place: usize) -> usize {
-        usize::from(u16::from_le_bytes([
-            self.byte(at, place),
-            self.byte(at, place + 1),
-        ]))
-    }
-
-    fn text(self, at: usize, most: usize) -> &'s str {
-        let item = &self.0[ITEM_BYTES * at..ITEM_BYTES * (at + 1)];
-        phones::text(&item[TEXT..], item[TEXT_LENGTH], most)
+/// What is still to come.
+impl fmt::Debug for Words<'_> {
+    fn fmt(&self, f: &mut fmt::Formatter<'_>) -> fmt::Result {
+        f.debug_list().entries(self.clone()).finish()
     }
 }
 
-/// Items of one kind along one of their links. It ends at 0, at an item that does not belong there, and at
-/// one that it met before. As an item belongs to one parent, all chains of a sheet together meet no item
-/// twice.
-#[derive(Clone)]
-struct Chain<'s> {
-    items: Items<'s>,
-    next: usize,
-    kind: u8,
-    parent: Option<usize>,
-    link: usize,
-    met: [u64; MOST_ITEMS / 64],
-}
-
-impl<'s> Chain<'s> {
-    /// The children of an item; item 0 is the parent of the words.
-    fn children(items: Items<'s>, parent: usize, kind: u8) -> Chain<'s> {
-        Chain::along(items, parent, FIRST_CHILD, kind, Some(parent), NEXT)
-    }
-
-    /// The phones of all words.
-    fn phones(items: Items<'s>) -> Chain<'s> {
-        Chain::along(items, 0, NEXT_PHONE, PHONE, None, NEXT_PHONE)
-    }
-
-    fn along(
-        items: Items<'s>,
-        from: usize,
-        first: usize,
-        kind: u8,
-        parent: Option<usize>,
-        link: usize,
-    ) -> Chain<'s> {
-        let next = if items.0.is_empty() {
-            0
-        } else {
-            items.field(from, first)
-        };
-        let met = [0; MOST_ITEMS / 64];
-        Chain {
-            items,
-            next,
-            kind,
-            parent,
-            link,
-            met,
-        }
-    }
-
-    fn belongs(&self, at: usize) -> bool {
-        self.items.has(at)
-            && self.items.byte(at, KIND) == self.kind
-            && self
-                .parent
-                .is_none_or(|parent| self.items.field(at, PARENT) == parent)
-            && self.met[at / 64] & 1 << (at % 64) == 0
+/// What is still to come.
+impl fmt::Debug for Syllables<'_> {
+    fn fmt(&self, f: &mut fmt::Formatter<'_>) -> fmt::Result {
+        f.debug_list().entries(self.clone()).finish()
     }
 }
 
-impl Iterator for Chain<'_> {
-    type Item = usize;
-
-    fn next(&mut self) -> Option<usize> {
-        let at = self.next;
-        if !self.belongs(at) {
-            return None;
-        }
-        self.met[at / 64] |= 1 << (at % 64);
-        self.next = self.items.field(at, self.link);
-        Some(at)
+/// What is still to come.
+impl fmt::Debug for Phones<'_> {
+    fn fmt(&self, f: &mut fmt::Formatter<'_>) -> fmt::Result {
+        f.debug_list().entries(self.clone()).finish()
     }
 }

@@ -1,9 +1,10 @@
 use core::fmt;
 
-use crate::foreign;
+use crate::entries::{Entries, Entry};
 use crate::phones::PhoneList;
 use crate::refusal::Refused;
 use crate::sections::Lexicon;
+use crate::{foreign, unsound};
 
 /// The entries added at run time, in lent bytes: slots of 512 bytes, of which the first keeps count. With
 /// 65,536 bytes there is room for 127 entries.
@@ -20,6 +21,12 @@ use crate::sections::Lexicon;
 ///
 /// let found = example::LEXICON.lookup(&store, "dimmer", "", &mut out)?.expect("it was added");
 /// assert_eq!(found.phones.to_string(), "d ih1 m er0");
+///
+/// assert_eq!(store.len(), 1);
+/// for entry in &store {
+///     println!("{} {} : {}", entry.word, entry.tag, entry.phones);
+/// }
+/// assert_eq!(format!("{store:?}"), "[dimmer n : d ih1 m er0]");
 /// # Ok::<(), pronouncer::Refused>(())
 /// ```
 pub struct Store<'a> {
@@ -29,10 +36,11 @@ pub struct Store<'a> {
 impl<'a> Store<'a> {
     /// Begins a store without entries, in bytes that may hold anything. Only the first 512 are written.
     ///
-    /// Refused: [`Unsound`](crate::Refusal::Unsound) if the length is not a multiple of 512 from 512 to
-    /// 65,536.
+    /// # Errors
+    ///
+    /// [`Unsound`](crate::Refusal::Unsound) if the length is not a multiple of 512 from 512 to 65,536.
     pub fn new_store(bytes: &'a mut [u8]) -> Result<Store<'a>, Refused> {
-        foreign::new_store(bytes).accepted()?;
+        foreign::new_store(bytes).accepted_on(|| unsound::in_store(bytes))?;
         Ok(Store { bytes })
     }
 
@@ -45,7 +53,9 @@ impl<'a> Store<'a> {
     /// Adds an entry behind the others; one of the same word and tag goes. The word is kept in small letters.
     /// Of a tag the first byte counts; none, and "nil", are "0".
     ///
-    /// Refused: [`Section`](crate::Refusal::Section) for lex.phones, [`Unsound`](crate::Refusal::Unsound),
+    /// # Errors
+    ///
+    /// [`Section`](crate::Refusal::Section) for lex.phones, [`Unsound`](crate::Refusal::Unsound),
     /// [`Text`](crate::Refusal::Text), [`UnknownPhone`](crate::Refusal::UnknownPhone),
     /// [`Phones`](crate::Refusal::Phones) for over 24 phones, [`Full`](crate::Refusal::Full).
     pub fn add_entry(
@@ -56,7 +66,8 @@ impl<'a> Store<'a> {
         phones: PhoneList<'_>,
     ) -> Result<(), Refused> {
         let (word, tag) = (word.as_ref(), tag.as_ref());
-        foreign::add_entry(lexicon.phones, self.bytes, word, tag, phones.cells()).accepted()?;
+        foreign::add_entry(lexicon.phones, self.bytes, word, tag, phones.cells())
+            .accepted_on(|| unsound::in_store(self.bytes))?;
         Ok(())
     }
 
@@ -67,12 +78,13 @@ impl<'a> Store<'a> {
     /// the store. Where a line is faulty, the store stays as it was and the spare shows how far the text
     /// came: it holds the store with the lines before.
     ///
-    /// Refused with line 0, and then the spare too is left as it was: [`Section`](crate::Refusal::Section),
+    /// # Errors
+    ///
+    /// With line 0, and then the spare too is left as it was: [`Section`](crate::Refusal::Section),
     /// [`Unsound`](crate::Refusal::Unsound), also for the spare's length, [`Text`](crate::Refusal::Text) for
-    /// a byte of 128 or more anywhere. Refused with the first faulty line: [`Text`](crate::Refusal::Text) for
-    /// a word or tag over 47 bytes, [`Line`](crate::Refusal::Line),
-    /// [`UnknownPhone`](crate::Refusal::UnknownPhone), [`Phones`](crate::Refusal::Phones),
-    /// [`Full`](crate::Refusal::Full).
+    /// a byte of 128 or more anywhere. With the first faulty line: [`Text`](crate::Refusal::Text) for a word
+    /// or tag over 47 bytes, [`Line`](crate::Refusal::Line), [`UnknownPhone`](crate::Refusal::UnknownPhone),
+    /// [`Phones`](crate::Refusal::Phones), [`Full`](crate::Refusal::Full).
     ///
     /// ```
     /// use pronouncer::{example, Refusal, Store};
@@ -94,9 +106,28 @@ impl<'a> Store<'a> {
         spare: &mut [u8],
         text: impl AsRef<[u8]>,
     ) -> Result<usize, Refused> {
-        let answer =
-            foreign::add_entries(lexicon.phones, self.bytes, spare, text.as_ref()).accepted()?;
+        let answer = foreign::add_entries(lexicon.phones, self.bytes, spare, text.as_ref());
+        let answer = answer.accepted_on(|| {
+            unsound::in_store(self.bytes).or_else(|| unsound::in_spare(self.bytes, spare))
+        })?;
         Ok(answer.count())
+    }
+
+    /// The entries in the order in which a lookup tries them: one that was added again is the last.
+    ///
+    /// Over bytes that are no sound store it gives what it can follow; it meets no slot twice, so it ends.
+    pub fn iter(&self) -> Entries<'_> {
+        Entries::of(self.bytes)
+    }
+
+    /// How many entries there are.
+    pub fn len(&self) -> usize {
+        self.iter().count()
+    }
+
+    /// Whether there is no entry.
+    pub fn is_empty(&self) -> bool {
+        self.iter().next().is_none()
     }
 
     /// The bytes.
@@ -110,8 +141,18 @@ impl<'a> Store<'a> {
     }
 }
 
+/// The entries in order.
+impl<'s> IntoIterator for &'s Store<'_> {
+    type Item = Entry<'s>;
+    type IntoIter = Entries<'s>;
+
+    fn into_iter(self) -> Entries<'s> {
+        self.iter()
+    }
+}
+
 impl fmt::Debug for Store<'_> {
     fn fmt(&self, f: &mut fmt::Formatter<'_>) -> fmt::Result {
-        write!(f, "Store of {} bytes", self.bytes.len())
+        self.iter().fmt(f)
     }
 }

@@ -2,7 +2,7 @@
 
 mod sections;
 
-use pronouncer::{example, PhoneList, Refusal, Refused, Sheet, Store};
+use pronouncer::{example, PhoneList, Refusal, Sheet, Store};
 use sections::{cells, reading};
 
 /// A store and a sheet that live through a list of calls.
@@ -34,9 +34,11 @@ impl Show {
         told.map_err(|refused| refused.refusal)
     }
 
-    fn add_text(&mut self, text: &str) -> Result<usize, Refused> {
+    /// How many lines were taken, or why none was, and the line.
+    fn add_text(&mut self, text: &str) -> Result<usize, (Refusal, usize)> {
         let mut spare = vec![3; self.slots.len()];
-        Store::over(&mut self.slots).add_entries(&example::LEXICON, &mut spare, text)
+        let told = Store::over(&mut self.slots).add_entries(&example::LEXICON, &mut spare, text);
+        told.map_err(|refused| (refused.refusal, refused.line))
     }
 
     fn say(&mut self, word: &str, tag: &str) -> Result<(), Refusal> {
@@ -83,13 +85,7 @@ fn a_show() {
         Err(Refusal::UnknownPhone)
     );
     let stopped = show.add_text("lead : l ih d\nlead v l iy d");
-    assert_eq!(
-        stopped,
-        Err(Refused {
-            refusal: Refusal::Line,
-            line: 2
-        })
-    );
+    assert_eq!(stopped, Err((Refusal::Line, 2)));
     assert_eq!(show.reads(), three);
 
     // A word without phones has no syllables.
@@ -127,13 +123,7 @@ fn entries_between_words() {
 fn a_text_is_taken_whole_or_not_at_all() {
     let mut show = Show::begun();
     let too_many = "a : k\nb : k\nc : k";
-    assert_eq!(
-        show.add_text(too_many),
-        Err(Refused {
-            refusal: Refusal::Full,
-            line: 3
-        })
-    );
+    assert_eq!(show.add_text(too_many), Err((Refusal::Full, 3)));
     assert_eq!(show.say("b", ""), Ok(()));
     assert_eq!(
         show.add_text(

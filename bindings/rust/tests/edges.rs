@@ -203,3 +203,19 @@ fn phones_written_from_a_text() {
     assert_eq!(format!("{list:?}"), r#"["k", "aaaaaaaaaaaaaaa"]"#);
     assert!(PhoneList::write("", &mut []).expect("it fits").is_empty());
 }
+
+#[test]
+fn sections_tell_their_lengths() {
+    assert_eq!(
+        format!("{:?}", NO_WORDS),
+        "Lexicon { phones: 4 bytes, index: 4 bytes, data: 0 bytes }"
+    );
+    assert_eq!(
+        format!("{:?}", example::LETTERS),
+        "Letters { phones: 70 bytes, index: 52 bytes, model: 156 bytes }"
+    );
+    assert_eq!(
+        format!("{:?}", example::SAYABLE),
+        "Sayable { prefix: 50 bytes, suffix: 50 bytes }"
+    );
+}

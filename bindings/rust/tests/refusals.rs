@@ -14,7 +14,7 @@ const BROKEN: &[u8] = b"\xff\xff\xff";
 const BAD_WORDS: [&[u8]; 2] = [&[b'w'; 48], b"caf\xe9"];
 
 fn refused(refusal: Refusal) -> Refused {
-    Refused { refusal, line: 0 }
+    refusal.into()
 }
 
 /// Runs a call on a store or sheet, and sees that it is refused so and that the bytes stay.
@@ -25,7 +25,8 @@ fn stays<T: std::fmt::Debug>(
 ) {
     let before = bytes.to_vec();
     let told = call(bytes).expect_err("it must be refused");
-    assert_eq!(told, refused(refusal));
+    assert_eq!((told.refusal, told.line), (refusal, 0));
+    assert_eq!(told.unsound.is_some(), refusal == Refusal::Unsound);
     assert!(bytes == before, "{refusal:?} altered a lent byte");
 }
 
@@ -293,7 +294,8 @@ fn add_entries_at_a_line() {
         let (mut store, mut spare) = (new_store(3), vec![9; 3 * 512]);
         let text = format!("# two names\nA : k\n\n b nil : k\n{line}\nneither this");
         let told = Store::over(&mut store).add_entries(&NO_WORDS, &mut spare, text);
-        assert_eq!(told, Err(Refused { refusal, line: 5 }));
+        let told = told.expect_err("it must be refused");
+        assert_eq!((told.refusal, told.line, told.unsound), (refusal, 5, None));
         assert_eq!(store, new_store(3), "{refusal:?} altered the store");
         assert_eq!(spare, after, "the spare holds the lines before");
     }

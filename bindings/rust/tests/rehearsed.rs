@@ -4,7 +4,7 @@ mod sections;
 
 use pronouncer::{
     example, is_vowel, split_stress, Found, Lexicon, PhoneList, Refusal, Sayable, Source, Store,
-    LIST_BYTES,
+    Stress, LIST_BYTES,
 };
 use sections::{cells, entries, phone_table, NO_TREES, NO_WORDS};
 
@@ -35,10 +35,10 @@ fn marks() {
 
 #[test]
 fn stress() {
-    assert_eq!(split_stress("ax11"), ("ax1", Some(b'1')));
+    assert_eq!(split_stress("ax11"), ("ax1", Some(Stress::Stressed)));
     assert_eq!(split_stress("ae2"), ("ae2", None));
-    assert_eq!(split_stress("t0"), ("t", Some(b'0')));
-    assert_eq!(split_stress("0"), ("", Some(b'0')));
+    assert_eq!(split_stress("t0"), ("t", Some(Stress::Unstressed)));
+    assert_eq!(split_stress("0"), ("", Some(Stress::Unstressed)));
     assert_eq!(split_stress(""), ("", None));
     assert!(is_vowel("ax") && !is_vowel("pau") && !is_vowel("é"));
 }

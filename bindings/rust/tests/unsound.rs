@@ -2,7 +2,9 @@
 
 mod sections;
 
-use pronouncer::{example, PhoneList, Refusal, Sheet, Store};
+use pronouncer::{
+    example, ListedPhones, PhoneList, Phones, Refusal, Sheet, Store, Stress, Syllables, Words,
+};
 use sections::reading;
 
 /// Reads all there is, and tells how many items were met.
@@ -34,6 +36,41 @@ fn two_words() -> (Vec<u8>, usize) {
         "[lead[l iy d 1], gobo[g ow 1, b ow 1]]"
     );
     (items, 12)
+}
+
+#[test]
+fn iterators_have_names_and_tell_what_is_to_come() {
+    let (mut items, _) = two_words();
+    let sheet = Sheet::over(&mut items);
+    let mut words: Words<'_> = (&sheet).into_iter();
+    let lead = words.next().expect("the first");
+    assert_eq!(format!("{words:?}"), "[gobo[g ow 1, b ow 1]]");
+    let mut syllables: Syllables<'_> = lead.syllables();
+    assert_eq!(format!("{syllables:?}"), "[l iy d 1]");
+    let syllable = syllables.next().expect("the first");
+    assert_eq!(syllable.stress(), Stress::Stressed);
+    let mut phones: Phones<'_> = syllable.phones();
+    assert_eq!(phones.next(), Some("l"));
+    assert_eq!(format!("{phones:?}"), r#"["iy", "d"]"#);
+    assert!(syllables.next().is_none() && syllables.next().is_none());
+    let mut all: Phones<'_> = sheet.phones();
+    assert_eq!(all.by_ref().count(), 7);
+    assert_eq!(all.next(), None);
+}
+
+#[test]
+fn a_stress_that_is_none() {
+    let (mut items, _) = two_words();
+    for (byte, stress) in [
+        (b'0', Stress::Unstressed),
+        (b'1', Stress::Stressed),
+        (b'2', Stress::Unstressed),
+    ] {
+        items[2 * 64 + 1] = byte;
+        let sheet = Sheet::over(&mut items);
+        let first = sheet.words().flat_map(|word| word.syllables()).next();
+        assert_eq!(first.map(|syllable| syllable.stress()), Some(stress));
+    }
 }
 
 #[test]
@@ -130,4 +167,7 @@ fn cells_of_any_bytes() {
     let list = PhoneList::from_cells(&cells);
     assert_eq!(list.iter().collect::<Vec<_>>(), ["ae", "kkkkkkkkkkkkkkk"]);
     assert_eq!(list.to_string(), "ae kkkkkkkkkkkkkkk");
+    let mut phones: ListedPhones<'_> = (&list).into_iter();
+    assert_eq!((phones.len(), phones.next()), (2, Some("ae")));
+    assert_eq!(format!("{phones:?}"), r#"["kkkkkkkkkkkkkkk"]"#);
 }

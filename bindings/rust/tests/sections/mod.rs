@@ -56,7 +56,7 @@ pub fn reading(sheet: &Sheet<'_>) -> String {
     let words = sheet.words().map(|word| {
         let syllables = word.syllables().map(|syllable| {
             let phones: Vec<&str> = syllable.phones().collect();
-            format!("[{} {}]", phones.join(" "), char::from(syllable.stress()))
+            format!("[{} {}]", phones.join(" "), syllable.stress())
         });
         format!("{}{}", word.text(), syllables.collect::<String>())
     });

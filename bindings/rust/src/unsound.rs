@@ -1,0 +1,115 @@
+use core::fmt;
+
+use crate::foreign::{self, Answer};
+use crate::refusal::{Refusal, Refused};
+use crate::{ITEM_BYTES, LARGEST_BYTES, SLOT_BYTES};
+
+/// Which of its causes a refusal by [`Unsound`](Refusal::Unsound) has: the first that applies.
+///
+/// ```
+/// use pronouncer::{Store, Unsound};
+///
+/// let refused = Store::new_store(&mut [0; 1000]).unwrap_err();
+/// assert_eq!(refused.unsound, Some(Unsound::StoreLength(1000)));
+/// assert_eq!(
+///     refused.to_string(),
+///     "the store has 1000 bytes (refusal 2); lend 512 to 65,536, a multiple of 512"
+/// );
+/// ```
+#[derive(Debug, Clone, Copy, PartialEq, Eq, Hash)]
+#[non_exhaustive]
+pub enum Unsound {
+    /// The store has so many bytes, which are not 512 to 65,536 or no multiple of 512.
+    StoreLength(usize),
+    /// The store's length is right and its bytes are not: they are not what the calls wrote.
+    StoreBytes,
+    /// The sheet has so many bytes, which are not 64 to 65,536.
+    SheetLength(usize),
+    /// The sheet's length is right and its bytes are not: they are not what the calls wrote.
+    SheetBytes,
+    /// The spare is not as long as the store.
+    SpareLength {
+        /// Bytes of the store.
+        store: usize,
+        /// Bytes of the spare.
+        spare: usize,
+    },
+}
+
+impl Unsound {
+    /// What to do.
+    pub fn cure(self) -> &'static str {
+        match self {
+            Unsound::StoreLength(_) => "lend 512 to 65,536, a multiple of 512",
+            Unsound::StoreBytes => "begin it with new_store, and let only calls write it",
+            Unsound::SheetLength(_) => "lend 64 to 65,536",
+            Unsound::SheetBytes => "begin it with new_sheet, and let only calls write it",
+            Unsound::SpareLength { .. } => "lend a spare as long as the store",
+        }
+    }
+}
+
+/// What is wrong.
+impl fmt::Display for Unsound {
+    fn fmt(&self, f: &mut fmt::Formatter<'_>) -> fmt::Result {
+        match self {
+            Unsound::StoreLength(bytes) => write!(f, "the store has {bytes} bytes"),
+            Unsound::StoreBytes => {
+                f.write_str("the store was never begun, or somebody else wrote into it")
+            }
+            Unsound::SheetLength(bytes) => write!(f, "the sheet has {bytes} bytes"),
+            Unsound::SheetBytes => {
+                f.write_str("the sheet was never begun, or somebody else wrote into it")
+            }
+            Unsound::SpareLength { store, spare } => {
+                write!(f, "the spare has {spare} bytes and the store {store}")
+            }
+        }
+    }
+}
+
+impl Answer {
+    /// The answer of an accepted call on a store or a sheet; `find` tells the cause of a refusal by 2.
+    pub fn accepted_on(self, find: impl FnOnce() -> Option<Unsound>) -> Result<Answer, Refused> {
+        self.accepted().map_err(|refused| match refused.refusal {
+            Refusal::Unsound => Refused {
+                unsound: find(),
+                ..refused
+            },
+            _ => refused,
+        })
+    }
+}
+
+/// A section without phones, or without entries.
+const NONE: &[u8] = &[0; 4];
+
+/// Why bytes are no sound store. Whether they are, a lookup tells.
+pub fn in_store(bytes: &[u8]) -> Option<Unsound> {
+    let length = bytes.len();
+    if length == 0 || length > LARGEST_BYTES || length % SLOT_BYTES != 0 {
+        return Some(Unsound::StoreLength(length));
+    }
+    let answer = foreign::lookup([NONE, NONE, b""], bytes, b"", b"", &mut []);
+    is_refused(answer).then_some(Unsound::StoreBytes)
+}
+
+/// Why bytes are no sound sheet. Whether they are, a phone string tells.
+pub fn in_sheet(bytes: &[u8]) -> Option<Unsound> {
+    let length = bytes.len();
+    if !(ITEM_BYTES..=LARGEST_BYTES).contains(&length) {
+        return Some(Unsound::SheetLength(length));
+    }
+    is_refused(foreign::phone_string(bytes, &mut [])).then_some(Unsound::SheetBytes)
+}
+
+/// Why a spare does not fit its store.
+pub fn in_spare(store: &[u8], spare: &[u8]) -> Option<Unsound> {
+    let (store, spare) = (store.len(), spare.len());
+    (store != spare).then_some(Unsound::SpareLength { store, spare })
+}
+
+/// By 2.
+fn is_refused(answer: Answer) -> bool {
+    answer.refusal == Refusal::Unsound.number()
+}

@@ -1,0 +1,123 @@
+//! Which cause a refusal by 2 has, of each call that takes a store or a sheet, and its message.
+
+mod sections;
+
+use pronouncer::{example, PhoneList, Refusal, Refused, Sheet, Store, Unsound};
+use sections::NO_WORDS;
+
+/// Sees that a call was refused by 2 with this cause.
+fn caused<T: std::fmt::Debug>(told: Result<T, Refused>, cause: Unsound) {
+    let refused = told.expect_err("it must be refused");
+    assert_eq!((refused.refusal, refused.line), (Refusal::Unsound, 0));
+    assert_eq!(refused.unsound, Some(cause));
+}
+
+fn a_store(slots: usize) -> Vec<u8> {
+    let mut bytes = vec![7; 512 * slots];
+    Store::new_store(&mut bytes).expect("a store");
+    bytes
+}
+
+#[test]
+fn of_lengths() {
+    for length in [0, 511, 513, 66_048] {
+        let (mut bytes, cause) = (vec![0; length], Unsound::StoreLength(length));
+        caused(Store::new_store(&mut bytes), cause);
+        let mut store = Store::over(&mut bytes);
+        let none = PhoneList::from_cells(b"");
+        caused(NO_WORDS.lookup(&store, "a", "", &mut []), cause);
+        caused(store.add_entry(&NO_WORDS, "a", "", none), cause);
+        caused(store.add_entries(&NO_WORDS, &mut [], "a : k"), cause);
+    }
+    for length in [0, 63, 65_537] {
+        let (mut bytes, cause) = (vec![0; length], Unsound::SheetLength(length));
+        caused(Sheet::new_sheet(&mut bytes), cause);
+        caused(Sheet::over(&mut bytes).phone_string(&mut []), cause);
+    }
+}
+
+#[test]
+fn of_bytes() {
+    // A link of slot 0 leads to a slot that is not used; a byte behind the fields of slot 0 is not 0.
+    for at in [0, 2, 4, 6, 511] {
+        let mut bytes = a_store(2);
+        bytes[at] = 1;
+        let mut store = Store::over(&mut bytes);
+        let (none, cause) = (PhoneList::from_cells(b""), Unsound::StoreBytes);
+        caused(NO_WORDS.lookup(&store, "a", "", &mut []), cause);
+        caused(store.add_entry(&NO_WORDS, "a", "", none), cause);
+        caused(store.add_entries(&NO_WORDS, &mut [], "a : k"), cause);
+    }
+    let mut items = vec![0; 128];
+    items[8] = 1;
+    let sheet = Sheet::over(&mut items);
+    caused(sheet.phone_string(&mut []), Unsound::SheetBytes);
+}
+
+#[test]
+fn of_a_spare() {
+    for spare in [0, 512, 1536] {
+        let mut bytes = a_store(2);
+        let told = Store::over(&mut bytes).add_entries(&NO_WORDS, &mut vec![0; spare], "a : k");
+        caused(told, Unsound::SpareLength { store: 1024, spare });
+    }
+}
+
+/// What a word is refused by, onto a sheet and with a store.
+fn said(items: &mut [u8], slots: &mut [u8]) -> Result<(), Refused> {
+    let (lexicon, letters) = (example::LEXICON, example::LETTERS);
+    Sheet::over(items).say_word(&lexicon, &letters, &Store::over(slots), "cat", "")
+}
+
+#[test]
+fn of_a_word_the_store_before_the_sheet() {
+    let (mut slots, mut items) = (a_store(1), vec![0; 640]);
+    assert_eq!(said(&mut items, &mut slots), Ok(()));
+    assert_eq!(said(&mut items, &mut slots[..511]), {
+        let mut refused = Refused::from(Refusal::Unsound);
+        refused.unsound = Some(Unsound::StoreLength(511));
+        Err(refused)
+    });
+    caused(said(&mut items[..60], &mut slots), Unsound::SheetLength(60));
+    // The sheet of cat is not sound without its last phone's item.
+    caused(said(&mut items[..320], &mut slots), Unsound::SheetBytes);
+    slots[0] = 1;
+    caused(said(&mut items, &mut slots), Unsound::StoreBytes);
+    caused(said(&mut items[..60], &mut slots), Unsound::StoreBytes);
+}
+
+#[test]
+fn its_message() {
+    let messages = [
+        (
+            Unsound::StoreLength(513),
+            "the store has 513 bytes (refusal 2); lend 512 to 65,536, a multiple of 512",
+        ),
+        (
+            Unsound::StoreBytes,
+            "the store was never begun, or somebody else wrote into it (refusal 2); \
+             begin it with new_store, and let only calls write it",
+        ),
+        (
+            Unsound::SheetLength(63),
+            "the sheet has 63 bytes (refusal 2); lend 64 to 65,536",
+        ),
+        (
+            Unsound::SheetBytes,
+            "the sheet was never begun, or somebody else wrote into it (refusal 2); \
+             begin it with new_sheet, and let only calls write it",
+        ),
+        (
+            Unsound::SpareLength {
+                store: 1024,
+                spare: 512,
+            },
+            "the spare has 512 bytes and the store 1024 (refusal 2); lend a spare as long as the store",
+        ),
+    ];
+    for (cause, message) in messages {
+        let mut refused = Refused::from(Refusal::Unsound);
+        refused.unsound = Some(cause);
+        assert_eq!(refused.to_string(), message);
+    }
+}

@@ -1,0 +1,10 @@
+//! What the programs share: the command line, what ends a program and with which status, and words for each refusal.
+//!
+//! A program's own code stands in its folder, `src/bin/NAME/`.
+
+#![forbid(unsafe_code)]
+#![warn(missing_docs)]
+
+pub mod options;
+pub mod program;
+pub mod refusals;

@@ -1,0 +1,45 @@
+//! Each refusal in plain words: its number, its meaning and what to do.
+
+use pronouncer::Refusal;
+
+/// The words for a refusal, its number first.
+pub fn words(refusal: Refusal) -> String {
+    let number = refusal.number();
+    let (cause, cure) = match refusal {
+        Refusal::Section => (
+            "a section breaks its form",
+            "Run check_tables on the folder: it says which one and where.",
+        ),
+        Refusal::Unsound => (
+            "the store or the sheet is damaged or has a wrong length",
+            "Begin with a new one.",
+        ),
+        Refusal::Text => (
+            "a word or tag has more than 47 bytes, or a byte is not ASCII",
+            "Shorten it, or write it with plain letters.",
+        ),
+        Refusal::Line => (
+            "a line has no colon, or no word before it",
+            "Write: word tag : phones",
+        ),
+        Refusal::UnknownPhone => (
+            "a phone is in neither lex.phones nor the 50 known phones",
+            "Correct its spelling.",
+        ),
+        Refusal::Damaged => (
+            "the entry or the letter tree of this word is damaged",
+            "Run check_tables on the folder: it says which.",
+        ),
+        Refusal::Phones => (
+            "too many phones: an added entry has at most 24, a word 96",
+            "Take some away, or split the word in two.",
+        ),
+        Refusal::Full => (
+            "the store is full: it holds 127 entries",
+            "Begin a new store with the entries that this show needs.",
+        ),
+        Refusal::Short => ("the sheet has no room for the word", "Begin a new sheet."),
+        other => (other.cause(), other.cure()),
+    };
+    format!("{number}, {cause}. {cure}")
+}
