@@ -10,12 +10,12 @@ use Rattle.texts.specs.Text.{is, low, ascii, isWord}
 use Rattle.records.specs.Fields.{u16At}
 use Rattle.records.specs.Records.{recordAt}
 use Rattle.records.specs.Chain.{All, Linked, chain}
+use Rattle.records.specs.Counted.{Within}
 use Rattle.items.specs.Item.{itemOf, isClean, isWordItem, isHeadItem, fits, isItem, isHead}
 use Rattle.syllabify.specs.Syllables.{vowels}
 use Rattle.utterance_spec.specs.Tree.{Word, WordAt, wordsAt, phonesAt, itemsAt, sibling, follow, prev, places}
 use Rattle.utterance_spec.specs.Sheet.{at, used, reading, isSheetLength, after, beyond, isParent, isSibling, isFull, isChained, isPlaced, walks, order, isSound}
 use Rattle.utterance_spec.specs.Decided.{sound}
-use Rattle.utterance_spec.specs.Met.{Within}
 use Rattle.book.specs.Claim.{Tells, tells}
 
 -- a sheet of no words: item 0, all of it 0 but for bytes 4 (first word), 10 (last phone) and 12 (first phone)

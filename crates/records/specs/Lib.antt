@@ -1,5 +1,7 @@
--- To believe: Fields, Records and Chain say what numbers, records and chains in bytes are; their laws stand beside them.
+-- To believe: Fields, Records and Chain say what numbers, records and chains in bytes are, Between what zero and low bytes of a part are; Counted proves that n different numbers from 1 to n are all of these. Their laws stand beside them.
 pub mod Fields
 pub mod Records
 pub mod Chain
+pub mod Between
+pub mod Counted
 pub mod Laws

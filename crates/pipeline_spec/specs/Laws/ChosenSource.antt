@@ -22,7 +22,7 @@ use Rattle.lts.specs.Call.{toldPhones, outPhones}
 use Rattle.lexicon_spec.specs.Lookup.{Finding, nothing, damaged, found, toldFinding, outFinding}
 use Rattle.pipeline_spec.specs.Pronounced.{onLetters, onFinding}
 use Rattle.pipeline_spec.specs.Cutting.{toldSpoken, cellsSpoken}
-use Rattle.pipeline_spec.specs.Laws.Sources.{Few}
+use Rattle.lts.specs.FewPhones.{Few}
 
 -- what is answered behind a lookup, and the room: phones that were found stay
 abbrev pub toldBehind : Looked → Option (List (List ℕ)) → List ℕ → Answer

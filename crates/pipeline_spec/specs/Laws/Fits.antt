@@ -16,7 +16,8 @@ use Rattle.lts.specs.Letters.{letters, isTrees, trees-table}
 use Rattle.compiled_spec.specs.Lexicon.{isLexicon, lexicon-table}
 use Rattle.lexicon_spec.specs.Lookup.{Finding, nothing, damaged, found, find, wantedTag}
 use Rattle.pipeline_spec.specs.Pronounced.{Sections, Spoken, barred, phones, onFinding, pronounced}
-use Rattle.pipeline_spec.specs.Laws.Sources.{Fit, AreFit, find-fit, letters-fit}
+use Rattle.pipeline_spec.specs.Laws.Sources.{Fit, find-fit}
+use Rattle.lts.specs.FewPhones.{AreFit, letters-fit}
 
 -- a stress byte
 unfoldable pub isStress : ℕ → Bool

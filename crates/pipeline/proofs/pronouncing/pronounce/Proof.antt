@@ -15,7 +15,7 @@ use Rattle.lts.specs.Letters.{letters}
 use Rattle.store_spec.specs.Store.{entries}
 use Rattle.lexicon_spec.specs.Lookup.{Finding, find, wantedTag, toldFinding, outFinding}
 use Rattle.pipeline_spec.specs.Pronounced.{pronounced}
-use Rattle.pipeline_spec.specs.Laws.Sources.{letters-few}
+use Rattle.lts.specs.FewPhones.{letters-few}
 use Rattle.pipeline_spec.specs.Laws.ChosenSource.{lookup-refused, lookup-followed}
 use Rattle.answers.proofs.Looked as looked
 use Rattle.pipeline.proofs.pronouncing.pronounce.Tie as tie
