@@ -16,7 +16,7 @@ use Rattle.records.specs.Fields.{u16At}
 use Rattle.records.specs.Records.{recordAt, records, record-of, length-records, byte-of}
 use Rattle.records.specs.Between.{Zero, Low, part-at, part-every, rest-zero, zero-rest, part-zero, zero-part, text-low, low-text}
 use Rattle.slots_spec.specs.Slot.{entryOf, isSmall, isFolded, slot, isSlot, slot-of, length-slot}
-use Rattle.slots.specs.SoundSlot.{Folded, SoundCell, SoundSlot}
+use Rattle.slots_spec.specs.SoundSlot.{Folded, SoundCell, SoundSlot}
 use Rattle.slots_spec.specs.Laws.Parts.{isKey, isBlank, usedCells, isTidy, slot-parts}
 
 -- a slot that passes the test has 512 bytes, and its first is a byte

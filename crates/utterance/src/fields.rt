@@ -1,4 +1,4 @@
-// The fields of an item. A field past the sheet's end reads as zero.
+// The fields of an item that may be past the sheet's end, where they read as zero; `inside.rt` reads those of an item inside.
 ghost use mathlib.Core.Path.{_≡_};
 ghost use Prim.Native.Nat.{_<_};
 ghost use Rattle.records.specs.Fields.{u16At};
@@ -35,13 +35,6 @@ pub fn next(sheet: &[u8], n: u16) -> u16
     ensures { λ r. ⌜ r ≡ at (now (sheet .entry)) n .next ⌝ }
 {
     field(sheet, n, 2)
-}
-
-// The first child.
-pub fn first(sheet: &[u8], n: u16) -> u16
-    ensures { λ r. ⌜ r ≡ at (now (sheet .entry)) n .first ⌝ }
-{
-    field(sheet, n, 4)
 }
 
 // The last child.

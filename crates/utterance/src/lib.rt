@@ -5,13 +5,8 @@ mod links;
 mod order;
 mod sound;
 
-pub use fields::first;
 pub use fields::follow;
-pub use fields::item;
-pub use fields::kind;
 pub use fields::last;
-pub use fields::next;
-pub use fields::parent;
 pub use fields::prev;
 pub use fields::text;
 pub use fields::used;

@@ -11,13 +11,17 @@ use lib.ListN.{length, getD}
 use borrow.Author.Tests.{leb-true}
 use Rattle.texts.specs.Choice.{both-true, cases}
 use Rattle.texts.specs.Lists.{every, first, Passes, first-passes}
-use Rattle.texts.specs.Text.{folded, ascii, isPhone, phone-from}
+use Rattle.texts.specs.Text.{folded, ascii, same, isPhone, phone-from}
+use Rattle.records.specs.Records.{recordAt}
+use Rattle.records.specs.Fields.{u16At}
+use Rattle.records.specs.Chain.{All}
 use Rattle.addenda.specs.Addenda.{Addendum, addenda}
 use Rattle.addenda.specs.Rules.{phoneFits, addenda-fit, fits as rowFits}
 use Rattle.addenda.specs.Find.{isMeant}
 use Rattle.data.specs.Sections.{isPhoneTable, tablePhones}
-use Rattle.slots_spec.specs.Slot.{Entry, fits, fits-parts}
-use Rattle.store_spec.specs.Store.{isWanted}
+use Rattle.slots_spec.specs.Slot.{Entry, fits, fits-parts, entryOf, slot, isSlot}
+use Rattle.store_spec.specs.Store.{entryAt, entries, isWanted}
+use Rattle.store_spec.specs.Sound.{Slot, Sound, entries-are}
 use Rattle.compiled_spec.specs.Entries.{entryAt as compiledAt, numbersOf, entryPhones, isSpoken}
 use Rattle.compiled_spec.specs.Search.{chosen}
 use Rattle.compiled_spec.specs.declared.Chosen.{Chosen}
@@ -71,3 +75,14 @@ find-fit es table index dat word tag h t =
     entry-fit (first (isWanted true (map folded word) tag) es) (onRow (first (isMeant word tag) addenda) (fromCompiled table index dat word tag)) (first-passes (isWanted true (map folded word) tag) fits es h)
     (row-fit (first (isMeant word tag) addenda) (fromCompiled table index dat word tag) (first-passes (isMeant word tag) rowFits addenda addenda-fit)
     (chosen-fit table index dat (chosen index dat word tag) t))
+
+-- the entries of a sound store fit
+slots-fit : (b : List ℕ) (xs : List ℕ) → All (Slot b) xs → every fits (map (entryAt b) xs) ≡ true
+unfolding every entryAt isSlot
+slots-fit b [] a = refl
+slots-fit b (x ∷ xs) a =
+    let s = both-true (fits (entryOf (recordAt 512 b x))) (same (recordAt 512 b x) (slot (u16At (recordAt 512 b x) 0) (entryOf (recordAt 512 b x)))) (a .0 .sound) in
+    rw (s .0) (slots-fit b xs (a .1))
+
+pub entries-fit : (b : List ℕ) → Sound b → every fits (entries b) ≡ true
+entries-fit b s = rw (entries-are b s) (slots-fit b (s .chained) (s .each))
