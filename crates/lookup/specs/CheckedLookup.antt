@@ -48,9 +48,9 @@ Never P n = (j : ℕ) → j < n → P j → ⊥
 
 -- the phones of the first entry with the word and the tag; else of the first with the word; else nothing
 pub data Answers (phones index dat word : List ℕ) (tag : ℕ) : Finding → Type 0 where
-  exact : (i : ℕ) → First (Exact index dat word tag) (count index) i → Answers phones index dat word tag (found Compiled (phonesOf phones (entryAt index dat i)))
+  exact : (i : ℕ) → First (Exact index dat word tag) (count index) i → Answers phones index dat word tag (found Compiled (entryPhones phones (entryAt index dat i)))
   equal : (i : ℕ) → Never (Exact index dat word tag) (count index) → First (Equal index dat word) (count index) i
-      → Answers phones index dat word tag (found Compiled (phonesOf phones (entryAt index dat i)))
+      → Answers phones index dat word tag (found Compiled (entryPhones phones (entryAt index dat i)))
   missing : Never (Equal index dat word) (count index) → Answers phones index dat word tag nothing
 
 -- there is only one such answer
@@ -64,7 +64,7 @@ first-one P n i j h k =
 
 module _ (phones index dat word : List ℕ) (tag : ℕ) where
   phones-at : ℕ → Finding
-  phones-at i = found Compiled (phonesOf phones (entryAt index dat i))
+  phones-at i = found Compiled (entryPhones phones (entryAt index dat i))
 
   pub answers-one : (f g : Finding) → Answers phones index dat word tag f → Answers phones index dat word tag g → f ≡ g
   unfolding phones-at
