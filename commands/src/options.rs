@@ -64,19 +64,20 @@ fn option(
     known: &[Known],
 ) -> Result<Argument, WrongUse> {
     let mut parts = argument.as_bytes().splitn(2, |byte| *byte == b'=');
-    let name = OsStr::from_bytes(parts.next().unwrap_or_default()).display();
-    let value = parts
-        .next()
-        .map(|value| OsStr::from_bytes(value).to_owned());
-    let Some(option) = known.iter().find(|option| name.to_string() == option.name) else {
+    let name = OsStr::from_bytes(parts.next().unwrap_or_default());
+    let Some(option) = known.iter().find(|option| name == option.name) else {
+        let name = name.display();
         return Err(WrongUse(format!("there is no option {name}")));
     };
-    match (
-        option.has_value,
-        value.or_else(|| option.has_value.then(|| behind.next())?),
-    ) {
-        (false, None) => Ok(Argument::Option(option.name)),
-        (true, Some(value)) => Ok(Argument::Value(option.name, value)),
+    let (name, has_value) = (option.name, option.has_value);
+    let value = match parts.next() {
+        Some(value) => Some(OsStr::from_bytes(value).to_owned()),
+        None if has_value => behind.next(),
+        None => None,
+    };
+    match (has_value, value) {
+        (false, None) => Ok(Argument::Option(name)),
+        (true, Some(value)) => Ok(Argument::Value(name, value)),
         (true, None) => Err(WrongUse(format!("{name} needs a value behind it"))),
         (false, Some(_)) => Err(WrongUse(format!("{name} takes no value"))),
     }

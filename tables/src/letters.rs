@@ -14,6 +14,10 @@ const STRESSED: &str = "STRESSED";
 /// The leaf of a letter that is not said.
 pub const SILENT: &str = "epsilon";
 
+/// A set of letters: bit 0 is a.
+type Letters = u32;
+const EVERY: Letters = (1 << 26) - 1;
+
 /// One case of a rule: the bytes that each feature may have, and the leaf's number.
 #[derive(Clone, Debug, PartialEq, Eq, Hash)]
 pub struct Case {
@@ -56,13 +60,28 @@ struct Rule<'a> {
 /// The rules of a text. Each letter has a last rule without context, or there is a fault.
 pub fn read(bytes: &[u8], faults: &mut Faults) -> Rules {
     let mut rules = Rules::default();
-    for line in lines::read(bytes, faults) {
+    let lines = lines::read(bytes, faults);
+    let mut doubtful = if faults.list.is_empty() { 0 } else { EVERY };
+    for line in lines {
         if let Err(sentence) = rules.take(&line) {
             faults.add(line.number, sentence);
+            doubtful |= meant(line.text);
         }
     }
-    rules.check_last(faults);
+    rules.check_last(doubtful, faults);
     rules
+}
+
+/// The letters that a faulty line may be a rule of: the one behind its bracket, none if it begins as a definition, else
+/// any.
+fn meant(text: &str) -> Letters {
+    let bracket = text.split_once('[');
+    let behind = bracket.map(|(_, rest)| rest.trim_start_matches(lines::is_blank));
+    match behind.map(|rest| rest.bytes().next()) {
+        Some(Some(letter @ b'a'..=b'z')) => 1 << (letter - b'a'),
+        None if text.starts_with(|c: char| c.is_ascii_uppercase()) => 0,
+        _ => EVERY,
+    }
 }
 
 impl Rules {
@@ -83,9 +102,10 @@ impl Rules {
         }
     }
 
-    fn check_last(&self, faults: &mut Faults) {
-        for (letter, name) in self.letters.iter().zip('a'..='z') {
-            if letter.closed_at.is_none() {
+    /// Tells each letter without a last rule, but for those whose rule may stand in a faulty line, which is told already.
+    fn check_last(&self, doubtful: Letters, faults: &mut Faults) {
+        for (place, (letter, name)) in self.letters.iter().zip('a'..='z').enumerate() {
+            if letter.closed_at.is_none() && doubtful >> place & 1 == 0 {
                 let sentence = format!(
                     "the letter {name} has no last rule without context; add one, such as [{name}] = PHONES, behind its other rules"
                 );
@@ -148,8 +168,8 @@ impl Rules {
                         "\"{phone}\" needs the definition of {STRESSED}; write {STRESSED} = CONTEXTS in an earlier line"
                     ))
                 }
-                None if !phones::is_known(phone) => return Err(phones::unknown(phone)),
-                _ => {}
+                Some(_) => {}
+                None => phones::check(phone)?,
             }
         }
         Ok(())

@@ -85,9 +85,7 @@ fn entry(line: &Line) -> Result<Entry, String> {
 
 fn phones_of(text: &str) -> Result<Vec<String>, String> {
     let phones = lines::fields(text);
-    if let Some(phone) = phones.iter().find(|phone| !phones::is_known(phone)) {
-        return Err(phones::unknown(phone));
-    }
+    phones.iter().try_for_each(|phone| phones::check(phone))?;
     if phones.len() > MOST_OF_ENTRY {
         let count = phones.len();
         return Err(format!(
@@ -187,6 +185,7 @@ mod tests {
             ("# é\na : k".to_string(), "line 1: has a byte of 128 or more; write plain letters"),
             ("a : k q".to_string(), "line 1: \"q\" is no phone; write one of the 50"),
             ("a : ae2".to_string(), "line 1: \"ae2\" is no phone; write one of the 50"),
+            ("a : k1 ae".to_string(), "line 1: \"k1\" has a stress behind a consonant; write k, and 0 or 1"),
             ("a n : k\n\"A\" noun : t".to_string(), "line 2: \"a\" with tag \"n\" stands at line 1 too; keep one"),
         ];
         for (text, said) in cases {

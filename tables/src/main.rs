@@ -1,5 +1,6 @@
 //! Makes the eight sections from plain text. `tables/README.md` tells the format.
 
+mod checksums;
 mod contexts;
 mod fault;
 mod flite;

@@ -18,25 +18,29 @@ const VOWELS: [&str; 20] = [
 pub const MOST_PHONES: usize = 256;
 
 /// A phone without its last stress digit.
-pub fn bare(phone: &str) -> &str {
+fn bare(phone: &str) -> &str {
     phone.strip_suffix(['0', '1']).unwrap_or(phone)
-}
-
-/// Whether this is one of the 50 phones, with or without a stress digit.
-pub fn is_known(phone: &str) -> bool {
-    PHONES.contains(&phone) || PHONES.contains(&bare(phone))
 }
 
 pub fn is_vowel(bare: &str) -> bool {
     VOWELS.contains(&bare)
 }
 
-/// What to write in place of a phone that is none.
-pub fn unknown(phone: &str) -> String {
-    format!(
-        "\"{phone}\" is no phone; write one of the 50, and 0 or 1 behind a vowel: {}",
-        PHONES.join(" ")
-    )
+/// A phone is one of the 50, a vowel with or without a stress digit; else it is told what to write.
+pub fn check(phone: &str) -> Result<(), String> {
+    let bare = bare(phone);
+    if !PHONES.contains(&bare) {
+        return Err(format!(
+            "\"{phone}\" is no phone; write one of the 50, and 0 or 1 behind a vowel: {}",
+            PHONES.join(" ")
+        ));
+    }
+    if bare != phone && !is_vowel(bare) {
+        return Err(format!(
+            "\"{phone}\" has a stress behind a consonant; write {bare}, and 0 or 1 behind a vowel only"
+        ));
+    }
+    Ok(())
 }
 
 /// Every vowel with each digit.
@@ -61,9 +65,19 @@ mod tests {
     use super::*;
 
     #[test]
-    fn a_phone_is_known_with_one_digit_or_none() {
-        assert!(is_known("ae") && is_known("ae0") && is_known("ae1") && is_known("t"));
-        assert!(!is_known("ae2") && !is_known("ae11") && !is_known("") && !is_known("0"));
+    fn a_vowel_has_one_digit_or_none_and_a_consonant_none() {
+        for phone in ["ae", "ae0", "ae1", "t", "pau", "el1"] {
+            assert_eq!(check(phone), Ok(()));
+        }
+        for phone in ["ae2", "ae11", "", "0"] {
+            assert!(
+                check(phone).is_err_and(|told| told.contains("is no phone; write one of the 50"))
+            );
+        }
+        for phone in ["t0", "t1", "pau0"] {
+            assert!(check(phone)
+                .is_err_and(|told| told.contains("has a stress behind a consonant; write")));
+        }
     }
 
     #[test]

@@ -1,11 +1,11 @@
-//! The source folder, and the eight section files.
+//! The source folder, and the eight section files with their checksums.
 
 use std::fs;
 use std::io::ErrorKind;
 use std::path::Path;
 
 use crate::fault::Fault;
-use crate::{letters, lexicon, sayable, trees};
+use crate::{checksums, letters, lexicon, sayable, trees};
 
 /// The sections with their names, and how many things of each kind are in them.
 pub struct Made {
@@ -72,14 +72,18 @@ pub fn source_text(folder: &Path, file: &'static str) -> Result<Vec<u8>, Vec<Fau
     })
 }
 
-/// Writes the sections into a folder, which is made where it is missing.
+/// Writes the sections and then their checksums into a folder, which is made where it is missing.
 pub fn write(made: &Made, folder: &Path) -> Result<(), Fault> {
     fs::create_dir_all(folder).map_err(|error| unwritable(folder, &error))?;
     for (name, bytes) in &made.files {
-        let path = folder.join(name);
-        fs::write(&path, bytes).map_err(|error| unwritable(&path, &error))?;
+        write_file(&folder.join(name), bytes)?;
     }
-    Ok(())
+    let sums = checksums::text(&made.files);
+    write_file(&folder.join(checksums::FILE), sums.as_bytes())
+}
+
+fn write_file(path: &Path, bytes: &[u8]) -> Result<(), Fault> {
+    fs::write(path, bytes).map_err(|error| unwritable(path, &error))
 }
 
 fn unwritable(path: &Path, error: &std::io::Error) -> Fault {
@@ -160,6 +164,18 @@ mod tests {
             .expect_err("a section is a folder")
             .to_string();
         assert!(told.contains("lex.data: cannot be written ("), "{told}");
+        fs::remove_dir_all(folder).expect("the scratch folder can go");
+    }
+
+    #[test]
+    fn checksums_are_written_beside_the_sections() {
+        let folder = scratch("checksums");
+        let made = make(&english()).unwrap_or_else(|faults| panic!("{}", faults[0]));
+        write(&made, &folder).expect("the folder can be written");
+        let sums = fs::read_to_string(folder.join("checksums")).expect("the file is there");
+        let names: Vec<&str> = sums.lines().map(|line| &line[9..]).collect();
+        assert_eq!(names.len(), 8);
+        assert!(names.iter().all(|name| folder.join(name).is_file()));
         fs::remove_dir_all(folder).expect("the scratch folder can go");
     }
 

@@ -257,6 +257,7 @@ mod tests {
             ("[ab] = ey", "\"[ab]\" is no letter; write one letter from a to z in brackets"),
             ("[A] = ey", "\"[A]\" is no letter; write"),
             ("[a] = eyy", "\"eyy\" is no phone; write one of the 50"),
+            ("[a] = k1", "\"k1\" has a stress behind a consonant; write k, and 0 or 1 behind a vowel only"),
             ("[a] = k s t", "a letter gives at most two phones, and here are 3; give the others"),
             ("[a]NAME = ey", "NAME is not defined; write NAME = CONTEXTS in an earlier line"),
             ("[a]bcdef = ey", "the context reaches 5 letters far; write at most 4"),
@@ -311,6 +312,28 @@ mod tests {
             "{told}"
         );
         assert!(fault("", "z").starts_with("letters.txt: the letter z has no last rule"));
+    }
+
+    #[test]
+    fn a_faulty_last_rule_is_told_once() {
+        for rule in [
+            "[q] = kk",
+            "[q] = k1",
+            "[q] = ae*",
+            "[ q]7 = k",
+            "[q k",
+            "[q] k",
+            "q] = k",
+            "[Q] = k",
+            "q = k",
+            "[q] = \u{e9}",
+        ] {
+            fault(rule, "q");
+        }
+        let faults = read(b"[a] = eyy\nVOWEL = 7")
+            .err()
+            .expect("the rules are faulty");
+        assert_eq!(faults.len(), 2 + 25);
     }
 
     #[test]

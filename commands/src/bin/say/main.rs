@@ -2,4 +2,117 @@
 
 #![forbid(unsafe_code)]
 
-fn main() {}
+mod desk;
+mod entries;
+mod plain;
+mod warnings;
+mod words;
+
+use std::env;
+use std::ffi::OsString;
+use std::io::Write;
+use std::process::ExitCode;
+
+use commands::options::{Argument, Known, WrongUse};
+use commands::program::{Fault, Program, Status};
+use pronouncer::{Store, Tables, LARGEST_BYTES};
+
+use desk::Desk;
+
+const PROGRAM: Program = Program {
+    name: "say",
+    help: "\
+say [--tables FOLDER] [--entries FILE] .. [--plain] [--] [WORD ..]
+  Tells each word's source, its syllables, each behind its stress, and their phones.
+  WORD may have a tag behind a slash, as lead/v. With no word, words are read from
+  standard input and answered line by line.
+  --tables FOLDER  the folder of lex.phones, lex.index, lex.data, lts.phones, lts.index
+                   and lts.model, and of aswd.p and aswd.s for warnings; with none named
+                   it is that of PRONOUNCER_TABLES, else tables/english/sections
+  --entries FILE   lines `word tag : phones` that are added first; of several FILEs
+                   the later ones come behind
+  --plain          a word that is not found is asked in small letters, without outer
+                   punctuation, and without a last 's, 've, 'll or 'd, which is asked
+                   behind it; what was asked is told
+  --help, --version
+  Ends with 0 if all was said, 1 if something was refused or has no phones, 2 if the
+  command line cannot be understood. Refusals and warnings go to standard error.
+",
+    options: &[
+        Known {
+            name: "--tables",
+            has_value: true,
+        },
+        Known {
+            name: "--entries",
+            has_value: true,
+        },
+        Known {
+            name: "--plain",
+            has_value: false,
+        },
+    ],
+};
+
+fn main() -> ExitCode {
+    PROGRAM.run(env::args_os().skip(1), |arguments, out| {
+        run(&Asked::of(arguments)?, out)
+    })
+}
+
+/// What the command line asks for.
+#[derive(Default)]
+struct Asked {
+    tables: Option<OsString>,
+    entries: Vec<OsString>,
+    plain: bool,
+    /// Texts of words; standard input if there are none.
+    texts: Vec<OsString>,
+}
+
+impl Asked {
+    fn of(arguments: Vec<Argument>) -> Result<Asked, WrongUse> {
+        let mut asked = Asked::default();
+        for argument in arguments {
+            match argument {
+                Argument::Value("--tables", _) if asked.tables.is_some() => {
+                    return Err(WrongUse("--tables stands twice".into()));
+                }
+                Argument::Value("--tables", folder) => asked.tables = Some(folder),
+                Argument::Value(_, file) => asked.entries.push(file),
+                Argument::Option(_) => asked.plain = true,
+                Argument::Operand(text) => asked.texts.push(text),
+            }
+        }
+        Ok(asked)
+    }
+
+    fn folder(&self) -> OsString {
+        let told = self.tables.clone();
+        told.or_else(|| env::var_os("PRONOUNCER_TABLES"))
+            .unwrap_or("tables/english/sections".into())
+    }
+}
+
+/// The entries first, then the words.
+fn run(asked: &Asked, out: &mut dyn Write) -> Result<Status, Fault> {
+    let tables = Tables::read(asked.folder()).map_err(|error| Fault::Told(error.to_string()))?;
+    let mut slots = vec![0; LARGEST_BYTES];
+    let mut store = Store::new_store(&mut slots).map_err(|error| Fault::Told(error.to_string()))?;
+    for file in &asked.entries {
+        let taken = entries::add(&tables.lexicon(), &mut store, file.as_ref())?;
+        writeln!(out, "entries: {taken} taken")?;
+    }
+    let desk = Desk {
+        lexicon: tables.lexicon(),
+        letters: tables.letters(),
+        sayable: tables.sayable(),
+        store,
+        plain: asked.plain,
+    };
+    if asked.texts.is_empty() {
+        words::from_input(&desk, out)
+    } else {
+        words::from_texts(&desk, &asked.texts, out)
+    }
+}

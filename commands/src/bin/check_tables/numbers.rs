@@ -1,0 +1,11 @@
+//! Little-endian numbers in sections.
+
+pub fn u16_at(bytes: &[u8], at: usize) -> Option<usize> {
+    let two = bytes.get(at..)?.first_chunk()?;
+    Some(usize::from(u16::from_le_bytes(*two)))
+}
+
+pub fn u32_at(bytes: &[u8], at: usize) -> Option<usize> {
+    let four = bytes.get(at..)?.first_chunk()?;
+    usize::try_from(u32::from_le_bytes(*four)).ok()
+}

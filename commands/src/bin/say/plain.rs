@@ -1,0 +1,50 @@
+//! A word as a desk types it, turned into words to ask for.
+
+use crate::desk::{Desk, Word};
+
+/// Endings that are words of their own.
+const ENDINGS: [&[u8]; 4] = [b"'s", b"'ve", b"'ll", b"'d"];
+
+/// The words to ask for: the typed one if it is found, else it in small letters, else that without outer punctuation,
+/// else that with its ending parted from it.
+pub fn words(desk: &Desk, typed: &Word) -> Vec<Word> {
+    let with = |text: &[u8]| Word {
+        text: text.to_vec(),
+        tag: typed.tag.clone(),
+    };
+    let folded = with(&typed.text.to_ascii_lowercase());
+    let bare = with(without_punctuation(&folded.text));
+    if desk.has(typed) {
+        return vec![typed.clone()];
+    }
+    if desk.has(&folded) || bare.text.is_empty() {
+        return vec![folded];
+    }
+    if desk.has(&bare) {
+        return vec![bare];
+    }
+    match parted(&bare.text) {
+        Some((stem, ending)) => vec![
+            with(stem),
+            Word {
+                text: ending.to_vec(),
+                tag: Vec::new(),
+            },
+        ],
+        None => vec![bare],
+    }
+}
+
+fn without_punctuation(word: &[u8]) -> &[u8] {
+    let is_letter = |byte: &u8| !byte.is_ascii_punctuation();
+    let from = word.iter().position(is_letter).unwrap_or(word.len());
+    let to = word.iter().rposition(is_letter).map_or(from, |at| at + 1);
+    &word[from..to]
+}
+
+fn parted(word: &[u8]) -> Option<(&[u8], &[u8])> {
+    ENDINGS.into_iter().find_map(|ending| {
+        let stem = word.strip_suffix(ending)?;
+        (!stem.is_empty()).then_some((stem, ending))
+    })
+}

@@ -1,0 +1,11 @@
+//! check_tables as a user runs it: arguments, output, exit status.
+
+mod bits;
+mod checksums;
+mod damaged;
+mod folders;
+mod json;
+mod options;
+mod places;
+mod verdicts;
+mod warnings;

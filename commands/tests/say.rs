@@ -1,0 +1,399 @@
+//! `say` as a user runs it. The values of answers were written by hand, from the words of tables/english.
+
+mod running;
+
+use running::{altered, command, ended, english, file, folder, run, run_command, Ended};
+use std::ffi::OsString;
+use std::fs::File;
+use std::io::{BufRead, BufReader, Write};
+use std::process::Stdio;
+
+const SAY: &str = env!("CARGO_BIN_EXE_say");
+
+fn say(arguments: &[&str]) -> Ended {
+    run(SAY, arguments, "")
+}
+
+/// With one file of entries, and words behind it.
+fn with_entries(test: &str, text: impl AsRef<[u8]>, words: &[&str]) -> Ended {
+    let names = file(&folder(test), "names.txt", text);
+    let mut arguments = vec![OsString::from("--entries"), names];
+    arguments.extend(words.iter().map(OsString::from));
+    run(SAY, &arguments, "")
+}
+
+const NAMES: &str = "# tonight's names\niris n : ay1 r ih0 s\n\"Mel\" n : m eh1 l\n";
+
+const TEXT_REFUSED: &str =
+    "is refused: 3, a word or tag has more than 47 bytes, or a byte is not ASCII. \
+    Shorten it, or write it with plain letters.\n";
+
+#[test]
+fn words_of_every_source() {
+    let long = "x".repeat(48);
+    let said = with_entries(
+        "words_of_every_source",
+        NAMES,
+        &[
+            "house",
+            "lights to half",
+            "lead/v",
+            "lead/n",
+            "Iris",
+            ",",
+            "xylophone",
+            "tempo#two",
+            &long,
+            "café",
+        ],
+    );
+    let out = "entries: 2 taken\n\
+        house (compiled): 1 hh aw s\n\
+        lights (compiled): 1 l ay t s\n\
+        to (addenda): 0 t ax\n\
+        half (compiled): 1 hh ae f\n\
+        lead/v (compiled): 1 l iy d\n\
+        lead/n (compiled): 1 l eh d\n\
+        Iris (runtime): 1 ay | 0 r ih s\n\
+        , (addenda): no phones\n\
+        xylophone (letters): 1 z ay | 0 l ax | 1 f ow n\n\
+        tempo#two (letters): 1 t ow\n";
+    let err = format!(
+        "warning: \"tempo#two\" was read without \"tempo#\": write that as it is spoken, or add an entry (--entries)\n\
+         {long} {TEXT_REFUSED}café {TEXT_REFUSED}"
+    );
+    assert_eq!(said, ended(1, out, &err));
+}
+
+#[test]
+fn all_said_ends_with_0() {
+    assert_eq!(
+        say(&["house"]),
+        ended(0, "house (compiled): 1 hh aw s\n", "")
+    );
+    assert_eq!(say(&[","]), ended(0, ", (addenda): no phones\n", ""));
+    assert_eq!(say(&["/"]), ended(0, "/ (addenda): 1 s l ae sh\n", ""));
+    assert_eq!(say(&[""]), ended(0, "", ""));
+}
+
+#[test]
+fn letters_without_phones_end_with_1() {
+    let err = "warning: nothing in \"12\" gave a phone: write it as it is spoken, or add an entry for it (--entries)\n";
+    assert_eq!(say(&["12"]), ended(1, "12 (letters): no phones\n", err));
+    assert_eq!(
+        say(&["12", "house"]),
+        ended(
+            1,
+            "12 (letters): no phones\nhouse (compiled): 1 hh aw s\n",
+            err
+        )
+    );
+}
+
+#[test]
+fn a_refused_word_ends_with_1_and_the_others_are_said() {
+    let bytes = no_text();
+    assert_eq!(
+        run(SAY, &[bytes, "house".into()], ""),
+        ended(
+            1,
+            "house (compiled): 1 hh aw s\n",
+            &format!("\u{fffd} {TEXT_REFUSED}")
+        )
+    );
+}
+
+/// A byte that is no text.
+fn no_text() -> OsString {
+    use std::os::unix::ffi::OsStringExt;
+    OsString::from_vec(vec![0xff])
+}
+
+#[test]
+fn help_and_version() {
+    let help = say(&["--help"]);
+    assert_eq!((help.status, help.err.as_str()), (Some(0), ""));
+    assert!(help
+        .out
+        .starts_with("say [--tables FOLDER] [--entries FILE] .. [--plain] [--] [WORD ..]\n"));
+    assert_eq!(say(&["house", "--help"]), help);
+    assert_eq!(say(&["--version"]), ended(0, "say 0.1.0\n", ""));
+}
+
+#[test]
+fn wrong_use_ends_with_2() {
+    let pointer = "; say --help lists what it takes\n";
+    for (arguments, told) in [
+        (&["--loud", "house"][..], "there is no option --loud"),
+        (&["house", "-v"], "there is no option -v"),
+        (&["--plain=yes", "house"], "--plain takes no value"),
+        (&["house", "--entries"], "--entries needs a value behind it"),
+        (
+            &["--tables", "a", "--tables=b", "house"],
+            "--tables stands twice",
+        ),
+    ] {
+        assert_eq!(
+            say(arguments),
+            ended(2, "", &format!("say: {told}{pointer}"))
+        );
+    }
+}
+
+#[test]
+fn options_stand_anywhere() {
+    let names = file(
+        &folder("options_stand_anywhere"),
+        "good.txt",
+        "iris n : ay1 r ih0 s\n",
+    );
+    let out = "entries: 1 taken\nhouse (compiled): 1 hh aw s\niris (runtime): 1 ay | 0 r ih s\n";
+    let arguments = [
+        "house".into(),
+        "--entries".into(),
+        names.clone(),
+        "iris".into(),
+    ];
+    assert_eq!(run(SAY, &arguments, ""), ended(0, out, ""));
+
+    let mut behind = OsString::from("--entries=");
+    behind.push(&names);
+    assert_eq!(
+        run(SAY, &["house".into(), "iris".into(), behind], ""),
+        ended(0, out, "")
+    );
+}
+
+#[test]
+fn two_dashes_end_options() {
+    let said = say(&["--", "house", "-"]);
+    assert_eq!(
+        said,
+        ended(
+            0,
+            "house (compiled): 1 hh aw s\n- (addenda): no phones\n",
+            ""
+        )
+    );
+    let said = say(&["--", "--help"]);
+    assert_eq!(said.status, Some(0));
+    assert!(said.out.starts_with("--help (letters): "), "{}", said.out);
+}
+
+#[test]
+fn several_files_of_entries_are_taken_in_order() {
+    let folder = folder("several_files");
+    let first = file(&folder, "a.txt", "iris n : ay1 r ih0 s\nmel n : m eh1 l\n");
+    let second = file(&folder, "b.txt", "mel n : m iy1 l\n");
+    let arguments = [
+        "--entries".into(),
+        first,
+        "--entries".into(),
+        second,
+        "iris mel".into(),
+    ];
+    let out = "entries: 2 taken\nentries: 1 taken\niris (runtime): 1 ay | 0 r ih s\nmel (runtime): 1 m iy l\n";
+    assert_eq!(run(SAY, &arguments, ""), ended(0, out, ""));
+}
+
+#[test]
+fn entries_that_cannot_be_read_end_with_1() {
+    let folder = folder("entries_that_cannot_be_read");
+    let path = folder.display();
+    let arguments = [
+        "--entries".into(),
+        folder.clone().into_os_string(),
+        "iris".into(),
+    ];
+    let err = format!("say: cannot read {path}: Is a directory (os error 21)\n");
+    assert_eq!(run(SAY, &arguments, ""), ended(1, "", &err));
+
+    let err = "say: cannot read /x (letters): y: No such file or directory (os error 2)\n";
+    assert_eq!(
+        say(&["--entries", "/x (letters): y", "iris"]),
+        ended(1, "", err)
+    );
+}
+
+/// The sentence for a text of entries that is refused; the words behind it are not said.
+fn refused(test: &str, text: impl AsRef<[u8]>) -> String {
+    let ended = with_entries(test, text, &["house"]);
+    assert_eq!((ended.status, ended.out.as_str()), (Some(1), ""));
+    let (_, told) = ended
+        .err
+        .split_once("/names.txt")
+        .expect("the file is named");
+    assert!(ended.err.starts_with("say: entries of /"), "{}", ended.err);
+    told.into()
+}
+
+#[test]
+fn refused_entries_name_the_place() {
+    let long = "x".repeat(48);
+    let phones = "ae1 ".repeat(25);
+    for (test, text, told) in [
+        ("mark", "\u{feff}iris n : ay1\n".to_string(),
+            "line 1, byte 1 is refused: 3, a byte order mark stands there. Save the file as plain text without one."),
+        ("letter", "mel n : m eh1 l\nzoé n : z ow1\n".into(),
+            "line 2, byte 3 is refused: 3, \"é\" is not ASCII. Write it with plain letters."),
+        ("word", format!("\n{long} n : ay1\n"),
+            &format!("line 2 is refused: 3, \"{long}\" has more than 47 bytes. Shorten it.")),
+        ("tag", format!("iris {long} : ay1\n"),
+            &format!("line 1 is refused: 3, \"{long}\" has more than 47 bytes. Shorten it.")),
+        ("colon", "# names\niris n ay1 r ih0 s\n".into(),
+            "line 2 is refused: 4, a line has no colon, or no word before it. Write: word tag : phones"),
+        ("phone", "iris n : ay1 r ih9 s # ih0\n".into(),
+            "line 1 is refused: 5, the phone \"ih9\" is in neither lex.phones nor the 50 known phones. Correct its spelling."),
+        ("long_phone", "iris n : ay1 rrrrrrrrrrrrrrrr s\n".into(),
+            "line 1 is refused: 5, the phone \"rrrrrrrrrrrrrrrr\" is in neither lex.phones nor the 50 known phones. Correct its spelling."),
+        ("phones", format!("iris n : {phones}\n"),
+            "line 1 is refused: 7, too many phones: an added entry has at most 24, a word 96. Take some away, or split the word in two."),
+        ("full", (0..128).map(|n| format!("w{n} : ay1\n")).collect(),
+            "line 128 is refused: 8, the store is full: it holds 127 entries. Begin a new store with the entries that this show needs."),
+    ] {
+        assert_eq!(refused(test, text), format!(": {told}\n"));
+    }
+    assert_eq!(
+        refused("byte", b"mel : m\xe9\n"),
+        ": line 1, byte 8 is refused: 3, the byte 233 is not ASCII. Write it with plain letters.\n"
+    );
+}
+
+#[test]
+fn a_damaged_folder_is_told() {
+    let folder = altered("a_damaged_folder", &[("lex.phones", b"\x01")]);
+    let tables = folder.to_str().expect("a name in letters");
+    let section = "is refused: 1, a section breaks its form. \
+        Run check_tables on the folder: it says which one and where.\n";
+    assert_eq!(
+        say(&["--tables", tables, "house"]),
+        ended(1, "", &format!("house {section}"))
+    );
+    let names = file(&folder, "names.txt", NAMES);
+    let arguments = [
+        "--tables".into(),
+        folder.clone().into(),
+        "--entries".into(),
+        names.clone(),
+    ];
+    let err = format!(
+        "say: entries of {} are {}",
+        names.display(),
+        section.trim_start_matches("is ")
+    );
+    assert_eq!(run(SAY, &arguments, ""), ended(1, "", &err));
+
+    let folder = altered("a_damaged_entry", &[("lex.data", b"")]);
+    let tables = folder.to_str().expect("a name in letters");
+    let err = "house is refused: 6, the entry or the letter tree of this word is damaged. \
+        Run check_tables on the folder: it says which.\n";
+    assert_eq!(
+        say(&["--tables", tables, "house", "to"]),
+        ended(1, "to (addenda): 0 t ax\n", err)
+    );
+}
+
+#[test]
+fn a_folder_that_is_not_there_is_told() {
+    let err = "say: cannot read nowhere/lex.phones: No such file or directory (os error 2)\n";
+    assert_eq!(say(&["--tables", "nowhere", "house"]), ended(1, "", err));
+}
+
+#[test]
+fn words_as_a_desk_types_them_are_warned_of() {
+    for (word, out, warning) in [
+        ("cue,", "1 k uw | 0 ax", "\"cue,\" is not in the lexicon, but \"cue\" is: type that, or use --plain"),
+        ("go!", "1 g aa", "\"go!\" is not in the lexicon, but \"go\" is: type that, or use --plain"),
+        ("Lead/n", "1 l iy d", "\"Lead/n\" is not in the lexicon, but \"lead/n\" is: type that, or use --plain"),
+        ("house's", "1 hh aw | 0 z ax s", "\"house's\" is not in the lexicon, but \"house\" with \"'s\" is: type that, or use --plain"),
+        ("LX", "0 l k s", "\"LX\" is not in the lexicon, but \"lx\" is: type that, or use --plain"),
+        ("zrt", "0 z r t", "\"zrt\" does not look like a word that can be said: write its letters as words, or add an entry (--entries)"),
+        ("Q12", "0 k", "\"Q12\" was read without \"12\": write that as it is spoken, or add an entry (--entries)"),
+    ] {
+        let out = format!("{word} (letters): {out}\n");
+        assert_eq!(say(&[word]), ended(0, &out, &format!("warning: {warning}\n")));
+    }
+}
+
+#[test]
+fn plain_words_are_asked() {
+    for (word, out) in [
+        ("cue,", "cue, -> cue (compiled): 1 k y uw\n"),
+        ("GO!", "GO! -> go (compiled): 1 g ow\n"),
+        ("Lead/n", "Lead/n -> lead/n (compiled): 1 l eh d\n"),
+        (
+            "(House's)",
+            "(House's) -> house (compiled): 1 hh aw s\n(House's) -> 's (addenda): 0 z\n",
+        ),
+        ("it's", "it's (compiled): 1 ih t s\n"),
+        ("house", "house (compiled): 1 hh aw s\n"),
+        ("...", "... (letters): no phones\n"),
+    ] {
+        let said = say(&["--plain", word]);
+        assert_eq!(said.out, out);
+        assert_eq!(said.status, Some(i32::from(word == "...")), "{word}");
+        assert_eq!(said.err.is_empty(), word != "...", "{}", said.err);
+    }
+}
+
+#[test]
+fn words_are_read_from_input() {
+    let out = "house (compiled): 1 hh aw s\nto (addenda): 0 t ax\nhalf (compiled): 1 hh ae f\n";
+    assert_eq!(
+        run(SAY, &[""; 0], "house\tto\r\n\n half"),
+        ended(0, out, "")
+    );
+    assert_eq!(run(SAY, &[""; 0], ""), ended(0, "", ""));
+}
+
+#[test]
+fn input_is_answered_line_by_line() {
+    let mut child = command(SAY, &[""; 0]).spawn().expect("it runs");
+    let mut input = child.stdin.take().expect("its input");
+    let mut answers = BufReader::new(child.stdout.take().expect("its output")).lines();
+    for (word, answer) in [
+        ("house", "house (compiled): 1 hh aw s"),
+        ("to", "to (addenda): 0 t ax"),
+    ] {
+        writeln!(input, "{word}").expect("it is read");
+        assert_eq!(answers.next().expect("an answer").expect("a line"), answer);
+    }
+    drop(input);
+    assert!(child.wait().expect("it ends").success());
+}
+
+#[test]
+fn input_that_cannot_be_read_ends_with_1() {
+    let mut say = command(SAY, &[""; 0]);
+    say.stdin(File::open(english()).expect("the folder is there"));
+    let err = "say: cannot read standard input: Is a directory (os error 21)\n";
+    assert_eq!(run_command(say, ""), ended(1, "", err));
+
+    let err = "say: a line of standard input has 1048576 bytes or more; part it\n";
+    assert_eq!(run(SAY, &[""; 0], vec![b' '; 1 << 21]), ended(1, "", err));
+}
+
+#[test]
+fn a_closed_pipe_ends_it_quietly() {
+    let mut child = command(SAY, &[""; 0]).spawn().expect("it runs");
+    let mut input = child.stdin.take().expect("its input");
+    let mut answers = BufReader::new(child.stdout.take().expect("its output"));
+    writeln!(input, "house").expect("it is read");
+    answers.read_line(&mut String::new()).expect("an answer");
+    drop(answers);
+    // It ends at a later word, and closes its input then.
+    while writeln!(input, "house").is_ok() {}
+    let ended = child.wait_with_output().expect("it ends");
+    assert_eq!(ended.status.code(), Some(1));
+    assert_eq!(String::from_utf8_lossy(&ended.stderr), "");
+}
+
+#[test]
+fn output_that_cannot_be_written_ends_with_1() {
+    for arguments in [&["house"][..], &["--help"]] {
+        let mut say = command(SAY, arguments);
+        say.stdout(Stdio::from(File::create("/dev/full").expect("it is there")));
+        let err = "say: cannot write its output: No space left on device (os error 28)\n";
+        assert_eq!(run_command(say, ""), ended(1, "", err));
+    }
+}
