@@ -1,6 +1,7 @@
 //! The file of checksums: sections are held to it where it is there.
 
 use crate::folders::{Scratch, NAMES};
+use crate::running::Ended;
 
 /// The checksums of the small sections, by zlib.
 const SUMS: [&str; 8] = [
@@ -13,7 +14,7 @@ fn text() -> String {
 }
 
 /// The run on the small folder with this file of checksums.
-fn run(text: &str) -> crate::folders::Ran {
+fn run(text: &str) -> Ended {
     let scratch = Scratch::new();
     scratch.small_with("folder", "checksums", text.as_bytes());
     scratch.run(["folder"])
