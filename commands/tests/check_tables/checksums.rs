@@ -45,7 +45,8 @@ fn a_section_that_does_not_match_is_not_fit() {
 
 #[test]
 fn a_damaged_file_of_checksums_is_not_fit() {
-    let damaged = "is damaged: expected 8 hexadecimal digits, a blank and the name of a section";
+    let damaged =
+        "is damaged: expected 8 hexadecimal digits, a blank and the name of another section";
     for (from, to) in [
         ("lts.model", "lts.modem"),
         (SUMS[0], "+123456"),
@@ -69,11 +70,19 @@ fn a_damaged_file_of_checksums_is_not_fit() {
 #[test]
 fn each_section_has_one_line() {
     let ran = run(&text().replace("aswd.s", "aswd.p"));
-    let expected = "checksums: line 8 is damaged: expected a section that no earlier line has";
-    assert_eq!(ran.line("checksums: line "), expected);
-    let expected = "checksums: has no line for aswd.s: expected one for each of the eight";
-    assert_eq!(ran.line("checksums: has"), expected);
-    assert_eq!(run("").status, Some(1));
+    assert!(ran
+        .line("checksums: line 8 is damaged")
+        .ends_with("the name of another section"));
+    assert_eq!(ran.status, Some(1));
+    let whole = text();
+    let seven = &whole[..whole.len() - "2144df1c aswd.s\n".len()];
+    for (text, missing) in [(seven, "aswd.s"), ("", "lex.phones")] {
+        let ran = run(text);
+        let expected =
+            format!("checksums: has no line for {missing}: expected one for each of the eight");
+        assert_eq!(ran.line("checksums"), expected);
+        assert_eq!(ran.status, Some(1));
+    }
 }
 
 #[test]
