@@ -1,6 +1,7 @@
 //! The verdict on each kind of damage, in folders that are broken in one place.
 
-use crate::folders::{english_folder, Scratch};
+use crate::folders::{Scratch, NAMES};
+use crate::running::english;
 
 const LEXICON: &str = "\
 lex.phones: its form holds, 2 phones
@@ -112,7 +113,7 @@ fn check_trees(bytes: &[u8], line: &str) {
 
 #[test]
 fn english_is_fit() {
-    let folder = english_folder();
+    let folder = english();
     let ran = Scratch::new().run([&folder]);
     let (first, rest) = ran.out.split_once('\n').expect("there are lines");
     assert_eq!(first, format!("{}: fit for the show", folder.display()));
@@ -183,7 +184,7 @@ fn a_missing_folder_lacks_each_section() {
     let ran = Scratch::new().run(["nowhere"]);
     let mut expected =
         "nowhere: not fit for the show: a section is missing or cannot be read\n".to_string();
-    for name in crate::folders::NAMES {
+    for name in NAMES {
         let why = "cannot be read: No such file or directory (os error 2)";
         expected += &format!("{name}: {why}. See that the file is there and may be read.\n");
     }
