@@ -332,15 +332,15 @@ fn plain_words_are_asked() {
         ),
         (
             "LX've",
-            "LX've -> lx (compiled): 1 eh l | 1 eh k s\nLX've -> 've (letters): 1 v iy\n",
+            "LX've -> lx (compiled): 1 eh | 1 l eh k s\nLX've -> 've (compiled): 0 v\n",
         ),
         (
             "you'll",
-            "you'll -> you (compiled): 1 y uw\nyou'll -> 'll (letters): 0 l\n",
+            "you'll -> you (compiled): 1 y uw\nyou'll -> 'll (compiled): 0 l\n",
         ),
         (
             "he'd",
-            "he'd -> he (compiled): 1 hh iy\nhe'd -> 'd (letters): 0 d\n",
+            "he'd -> he (compiled): 1 hh iy\nhe'd -> 'd (compiled): 0 d\n",
         ),
         ("it's", "it's (compiled): 1 ih t s\n"),
         ("house", "house (compiled): 1 hh aw s\n"),

@@ -117,13 +117,13 @@ fn english_is_fit() {
     let ran = Scratch::new().run([&folder]);
     let (first, rest) = ran.out.split_once('\n').expect("there are lines");
     assert_eq!(first, format!("{}: fit for the show", folder.display()));
-    let expected = "  506 entries, 459 words, 46 homographs, 3321 nodes
+    let expected = "  509 entries, 462 words, 46 homographs, 3321 nodes
   deepest tree: 59 nodes, of \"a\"
   phones of lex.phones never used: ax1 axr0 axr1 el0 el1 em0 em1 en0 en1 oy0 uh0
   phones of lts.phones never used: none
 lex.phones: its form holds, 63 phones
-lex.index: its form holds, 506 entries
-lex.data: its form holds, 6487 bytes
+lex.index: its form holds, 509 entries
+lex.data: its form holds, 6507 bytes
 lexicon: every entry is whole, and the words are in order
 lts.phones: its form holds, 56 phones
 lts.index: its form holds, 26 letters
