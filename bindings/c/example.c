@@ -1,5 +1,5 @@
 /* Adds a name, says it and a letter, and prints the phones. At the top of the repository:
- *   cc -std=c99 -Ibindings/c bindings/c/example.c target/staticlib/libpronouncer.a -o example
+ *   cc -std=c99 -Ibindings/c bindings/c/example.c target/staticlib/libpronouncer.a -o target/example
  */
 #include "pronouncer.h"
 

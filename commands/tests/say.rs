@@ -208,6 +208,11 @@ fn entries_that_cannot_be_read_end_with_1() {
     let err = format!("say: cannot read {path}: Is a directory (os error 21)\n");
     assert_eq!(run(SAY, &arguments, ""), ended(1, "", &err));
 
+    let err = "say: cannot read a\\nhouse (letters): No such file or directory (os error 2)\n";
+    assert_eq!(
+        say(&["--entries", "a\nhouse (letters)", "iris"]),
+        ended(1, "", err)
+    );
     let err = "say: cannot read /x (letters): y: No such file or directory (os error 2)\n";
     assert_eq!(
         say(&["--entries", "/x (letters): y", "iris"]),
@@ -324,6 +329,18 @@ fn plain_words_are_asked() {
         (
             "(House's)",
             "(House's) -> house (compiled): 1 hh aw s\n(House's) -> 's (addenda): 0 z\n",
+        ),
+        (
+            "LX've",
+            "LX've -> lx (compiled): 1 eh | 1 l eh k s\nLX've -> 've (compiled): 0 v\n",
+        ),
+        (
+            "you'll",
+            "you'll -> you (compiled): 1 y uw\nyou'll -> 'll (compiled): 0 l\n",
+        ),
+        (
+            "he'd",
+            "he'd -> he (compiled): 1 hh iy\nhe'd -> 'd (compiled): 0 d\n",
         ),
         ("it's", "it's (compiled): 1 ih t s\n"),
         ("house", "house (compiled): 1 hh aw s\n"),

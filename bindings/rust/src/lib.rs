@@ -2,7 +2,7 @@
 //! written in Rattle and proved; this crate is plain Rust around it.
 //!
 //! Tables are handed over as borrowed sections ([`Lexicon`], [`Letters`], [`Sayable`]), entries are added to
-//! a lent [`Store`], words are said onto a lent [`Sheet`]. Nothing is allocated, and nothing is kept between
+//! a lent [`Store`], words are said onto a lent [`Sheet`]. No call allocates, and nothing is kept between
 //! calls but the bytes that were lent. Every call takes any bytes, also those of a stranger's file: it
 //! answers, or it is [`Refused`] and leaves every lent byte as it was, but for the spare of
 //! [`Store::add_entries`].

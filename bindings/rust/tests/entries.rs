@@ -158,7 +158,7 @@ fn links_by_chance() {
             .wrapping_add(1);
         (state >> 57) as u8
     };
-    for _ in 0..200 {
+    for _ in 0..50 {
         let mut bytes: Vec<u8> = (0..65_536).map(|_| chance()).collect();
         for slot in bytes.chunks_mut(512) {
             slot[1] = 0;

@@ -1,6 +1,7 @@
 //! The file of checksums: sections are held to it where it is there.
 
 use crate::folders::{Scratch, NAMES};
+use crate::running::Ended;
 
 /// The checksums of the small sections, by zlib.
 const SUMS: [&str; 8] = [
@@ -13,7 +14,7 @@ fn text() -> String {
 }
 
 /// The run on the small folder with this file of checksums.
-fn run(text: &str) -> crate::folders::Ran {
+fn run(text: &str) -> Ended {
     let scratch = Scratch::new();
     scratch.small_with("folder", "checksums", text.as_bytes());
     scratch.run(["folder"])
@@ -44,7 +45,8 @@ fn a_section_that_does_not_match_is_not_fit() {
 
 #[test]
 fn a_damaged_file_of_checksums_is_not_fit() {
-    let damaged = "is damaged: expected 8 hexadecimal digits, a blank and the name of a section";
+    let damaged =
+        "is damaged: expected 8 hexadecimal digits, a blank and the name of another section";
     for (from, to) in [
         ("lts.model", "lts.modem"),
         (SUMS[0], "+123456"),
@@ -68,11 +70,19 @@ fn a_damaged_file_of_checksums_is_not_fit() {
 #[test]
 fn each_section_has_one_line() {
     let ran = run(&text().replace("aswd.s", "aswd.p"));
-    let expected = "checksums: line 8 is damaged: expected a section that no earlier line has";
-    assert_eq!(ran.line("checksums: line "), expected);
-    let expected = "checksums: has no line for aswd.s: expected one for each of the eight";
-    assert_eq!(ran.line("checksums: has"), expected);
-    assert_eq!(run("").status, Some(1));
+    assert!(ran
+        .line("checksums: line 8 is damaged")
+        .ends_with("the name of another section"));
+    assert_eq!(ran.status, Some(1));
+    let whole = text();
+    let seven = &whole[..whole.len() - "2144df1c aswd.s\n".len()];
+    for (text, missing) in [(seven, "aswd.s"), ("", "lex.phones")] {
+        let ran = run(text);
+        let expected =
+            format!("checksums: has no line for {missing}: expected one for each of the eight");
+        assert_eq!(ran.line("checksums"), expected);
+        assert_eq!(ran.status, Some(1));
+    }
 }
 
 #[test]

@@ -3,8 +3,10 @@
 use std::ffi::OsStr;
 use std::fs;
 use std::path::{Path, PathBuf};
-use std::process::{Command, Output, Stdio};
+use std::process::Command;
 use std::sync::atomic::{AtomicUsize, Ordering};
+
+use crate::running::{self, Ended};
 
 /// The eight sections of a folder that is fit: "at" and "et", and letters that are all said as ae.
 const SMALL: [(&str, &[u8]); 8] = [
@@ -28,14 +30,9 @@ pub const NAMES: [&str; 8] = {
     names
 };
 
-/// Where the English sections are.
-pub fn english_folder() -> PathBuf {
-    Path::new(env!("CARGO_MANIFEST_DIR")).join("../tables/english/sections")
-}
-
 /// The bytes of an English section.
 pub fn english_section(name: &str) -> Vec<u8> {
-    fs::read(english_folder().join(name)).expect("the section is there")
+    fs::read(running::english().join(name)).expect("the section is there")
 }
 
 /// The number of the next scratch place.
@@ -80,7 +77,8 @@ impl Scratch {
 
     pub fn link(&self, folder: &str, name: &str) {
         let link = self.path(folder).join(name);
-        std::os::unix::fs::symlink(english_folder().join(name), link).expect("a link can be made");
+        std::os::unix::fs::symlink(running::english().join(name), link)
+            .expect("a link can be made");
     }
 
     /// Writes a file anew, also where a link was.
@@ -98,20 +96,14 @@ impl Scratch {
     }
 
     /// Runs the program in this place.
-    pub fn run<A: AsRef<OsStr>>(&self, arguments: impl IntoIterator<Item = A>) -> Ran {
-        Ran::of(
-            self.command(arguments)
-                .output()
-                .expect("the program starts"),
-        )
+    pub fn run<A: AsRef<OsStr>>(&self, arguments: impl IntoIterator<Item = A>) -> Ended {
+        running::run_command(self.command(arguments), "")
     }
 
     pub fn command<A: AsRef<OsStr>>(&self, arguments: impl IntoIterator<Item = A>) -> Command {
-        let mut command = Command::new(env!("CARGO_BIN_EXE_check_tables"));
-        command
-            .args(arguments)
-            .current_dir(&self.0)
-            .stdin(Stdio::null());
+        let arguments: Vec<A> = arguments.into_iter().collect();
+        let mut command = running::command(env!("CARGO_BIN_EXE_check_tables"), &arguments);
+        command.current_dir(&self.0);
         command
     }
 }
@@ -122,23 +114,8 @@ impl Drop for Scratch {
     }
 }
 
-/// What a run gave.
-pub struct Ran {
-    pub out: String,
-    pub err: String,
-    pub status: Option<i32>,
-}
-
-impl Ran {
-    fn of(output: Output) -> Ran {
-        Ran {
-            out: String::from_utf8(output.stdout).expect("the output is UTF-8"),
-            err: String::from_utf8(output.stderr).expect("the output is UTF-8"),
-            status: output.status.code(),
-        }
-    }
-
-    /// The line that begins so.
+impl Ended {
+    /// The line of the output that begins so.
     pub fn line(&self, front: &str) -> &str {
         let found = self.out.lines().find(|line| line.starts_with(front));
         found.unwrap_or_else(|| panic!("no line begins with {front:?}:\n{}", self.out))

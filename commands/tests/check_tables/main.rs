@@ -7,5 +7,7 @@ mod folders;
 mod json;
 mod options;
 mod places;
+#[path = "../running/mod.rs"]
+mod running;
 mod verdicts;
 mod warnings;

@@ -2,7 +2,6 @@
 
 use std::fs::OpenOptions;
 use std::io::Read;
-use std::process::Stdio;
 
 use crate::folders::Scratch;
 
@@ -122,8 +121,6 @@ fn a_closed_pipe_ends_it_quietly() {
     let folders = vec!["small"; 2000];
     let mut child = scratch
         .command(&folders)
-        .stdout(Stdio::piped())
-        .stderr(Stdio::piped())
         .spawn()
         .expect("the program starts");
     drop(child.stdout.take());

@@ -1,6 +1,7 @@
 //! The verdict on each kind of damage, in folders that are broken in one place.
 
-use crate::folders::{english_folder, Scratch};
+use crate::folders::{Scratch, NAMES};
+use crate::running::english;
 
 const LEXICON: &str = "\
 lex.phones: its form holds, 2 phones
@@ -112,17 +113,17 @@ fn check_trees(bytes: &[u8], line: &str) {
 
 #[test]
 fn english_is_fit() {
-    let folder = english_folder();
+    let folder = english();
     let ran = Scratch::new().run([&folder]);
     let (first, rest) = ran.out.split_once('\n').expect("there are lines");
     assert_eq!(first, format!("{}: fit for the show", folder.display()));
-    let expected = "  506 entries, 459 words, 46 homographs, 3321 nodes
+    let expected = "  509 entries, 462 words, 46 homographs, 3321 nodes
   deepest tree: 59 nodes, of \"a\"
   phones of lex.phones never used: ax1 axr0 axr1 el0 el1 em0 em1 en0 en1 oy0 uh0
   phones of lts.phones never used: none
 lex.phones: its form holds, 63 phones
-lex.index: its form holds, 506 entries
-lex.data: its form holds, 6487 bytes
+lex.index: its form holds, 509 entries
+lex.data: its form holds, 6507 bytes
 lexicon: every entry is whole, and the words are in order
 lts.phones: its form holds, 56 phones
 lts.index: its form holds, 26 letters
@@ -183,7 +184,7 @@ fn a_missing_folder_lacks_each_section() {
     let ran = Scratch::new().run(["nowhere"]);
     let mut expected =
         "nowhere: not fit for the show: a section is missing or cannot be read\n".to_string();
-    for name in crate::folders::NAMES {
+    for name in NAMES {
         let why = "cannot be read: No such file or directory (os error 2)";
         expected += &format!("{name}: {why}. See that the file is there and may be read.\n");
     }

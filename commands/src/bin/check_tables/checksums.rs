@@ -70,24 +70,24 @@ pub fn check(folder: &Path, sums: &[(&'static str, u32)], report: &mut Report) {
     }
 }
 
+/// Compares each section with its line, up to a line that is damaged.
 fn check_lines(text: &str, sums: &[(&'static str, u32)], report: &mut Report) {
     let mut listed = Vec::new();
     for (i, line) in text.lines().enumerate() {
-        let wrong = match parse(line) {
-            Some((_, name)) if listed.contains(&name) => "a section that no earlier line has",
-            Some((sum, name)) => {
-                listed.push(name);
-                compare(name, sum, sums, report);
-                continue;
-            }
-            None => "8 hexadecimal digits, a blank and the name of a section",
+        let Some((sum, name)) = parse(line).filter(|(_, name)| !listed.contains(name)) else {
+            let sentence = format!(
+                "line {} is damaged: expected 8 hexadecimal digits, a blank and the name of another section",
+                i + 1
+            );
+            report.fault(Kind::Checksum, Place::of(FILE), sentence);
+            return;
         };
-        let sentence = format!("line {} is damaged: expected {wrong}", i + 1);
-        report.fault(Kind::Checksum, Place::of(FILE), sentence);
+        listed.push(name);
+        compare(name, sum, sums, report);
     }
-    for name in SECTION_NAMES
+    if let Some(name) = SECTION_NAMES
         .into_iter()
-        .filter(|name| !listed.contains(name))
+        .find(|name| !listed.contains(name))
     {
         let sentence = format!("has no line for {name}: expected one for each of the eight");
         report.fault(Kind::Checksum, Place::of(FILE), sentence);

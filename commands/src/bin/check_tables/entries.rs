@@ -4,7 +4,7 @@
 use pronouncer::Lexicon;
 
 use crate::numbers::u32_at;
-use crate::report::{Kind, Place, Report};
+use crate::report::{Detail, Fault, Kind, Place, Report};
 
 /// An entry: where it stands in lex.data, and its parts.
 #[derive(Clone, Copy)]
@@ -72,29 +72,15 @@ pub fn all<'a>(lexicon: &Lexicon<'a>) -> impl Iterator<Item = Entry<'a>> {
 
 /// Tells of the entries of sections that have their form, and counts words; whether they are whole and in order.
 pub fn check(lexicon: &Lexicon, report: &mut Report) -> bool {
-    let taken = lexicon.check_lexicon().unwrap_or(false);
-    match (taken, first_fault(lexicon)) {
-        (true, None) => {
-            report.note(
-                "lexicon",
-                "every entry is whole, and the words are in order",
-            );
-            tally(lexicon, report);
-            return true;
-        }
-        (false, Some((place, sentence))) => report.fault(Kind::Lexicon, place, sentence),
-        (true, Some((place, sentence))) => report.fault(
-            Kind::Internal,
-            place,
-            format!("the library takes the lexicon, and {sentence}"),
-        ),
-        (false, None) => report.fault(
-            Kind::Internal,
-            Place::of("lex.data"),
-            "the library says that an entry is damaged or out of order, and none was found",
-        ),
+    let is_taken = lexicon.check_lexicon() == Ok(true);
+    if let Some(fault) = Fault::judged(Kind::Lexicon, "lex.data", is_taken, first_fault(lexicon)) {
+        report.details.push(Detail::Fault(fault));
+        return false;
     }
-    false
+    let sentence = "every entry is whole, and the words are in order";
+    report.note("lexicon", sentence);
+    tally(lexicon, report);
+    true
 }
 
 /// Counts different words, and those with more than one entry.

@@ -3,7 +3,7 @@
 use pronouncer::{Letters, Lexicon, Refused, Sayable};
 
 use crate::numbers::u32_at;
-use crate::report::{Detail, Kind, Place, Report};
+use crate::report::{Detail, Fault, Kind, Place, Report};
 
 /// The most phones of a table, and bytes of a phone.
 const MOST_PHONES: usize = 256;
@@ -17,42 +17,27 @@ pub const FRONT: usize = 4;
 pub const CELL: usize = 2;
 
 /// Where a section breaks its form, and what was expected there.
-#[derive(Debug, PartialEq, Eq)]
 struct Break(usize, &'static str);
 
 /// Tells whether a section has its form.
 pub fn check(name: &'static str, bytes: &[u8], report: &mut Report) -> bool {
-    match (taken(name, bytes), first_break(name, bytes)) {
-        (Ok(()), None) => {
-            let (count, things) = count(name, bytes);
-            report.details.push(Detail::Held(name, count, things));
-            match name {
-                "lex.index" => report.summary.entries = Some(count),
-                "lts.model" => report.summary.nodes = Some(count),
-                _ => {}
-            }
-            return true;
-        }
-        (Err(_), Some(Break(byte, expected))) => report.fault(
-            Kind::Form,
-            Place::at(name, byte),
-            format!("breaks its form: expected {expected}"),
-        ),
-        (Err(refused), None) => report.fault(
-            Kind::Internal,
-            Place::of(name),
-            format!(
-                "the library refuses it by {}, and no fault was found",
-                refused.refusal.number()
-            ),
-        ),
-        (Ok(()), Some(Break(byte, expected))) => report.fault(
-            Kind::Internal,
-            Place::at(name, byte),
-            format!("the library takes it, and at byte {byte} was expected {expected}"),
-        ),
+    let found = first_break(name, bytes).map(|Break(byte, expected)| {
+        let sentence = format!("breaks its form: expected {expected}");
+        (Place::at(name, byte), sentence)
+    });
+    let is_taken = taken(name, bytes).is_ok();
+    if let Some(fault) = Fault::judged(Kind::Form, name, is_taken, found) {
+        report.details.push(Detail::Fault(fault));
+        return false;
     }
-    false
+    let (count, things) = count(name, bytes);
+    report.details.push(Detail::Held(name, count, things));
+    match name {
+        "lex.index" => report.summary.entries = Some(count),
+        "lts.model" => report.summary.nodes = Some(count),
+        _ => {}
+    }
+    true
 }
 
 /// The calls that take sections, with this one among others whose form holds.

@@ -2,6 +2,9 @@
 
 use std::path::{Path, PathBuf};
 
+/// What to do about a disagreement with the library.
+pub const REPORT: &str = "tell the makers of check_tables, with these tables";
+
 /// What is wrong with a folder that is not fit.
 #[derive(Clone, Copy, Debug, PartialEq, Eq)]
 pub enum Kind {
@@ -76,6 +79,36 @@ pub struct Fault {
     pub sentence: String,
 }
 
+impl Fault {
+    /// What comes of the library's verdict on a section and of the search for its first fault: none if both find it in
+    /// order. That they disagree is a fault of this program or of the library, and told as such.
+    pub fn judged(
+        kind: Kind,
+        section: &'static str,
+        is_taken: bool,
+        found: Option<(Place, String)>,
+    ) -> Option<Fault> {
+        let (kind, place, sentence) = match (is_taken, found) {
+            (true, None) => return None,
+            (false, Some((place, sentence))) => (kind, place, sentence),
+            (true, Some((place, sentence))) => {
+                let sentence = format!("the library finds no fault, but {sentence}; {REPORT}");
+                (Kind::Internal, place, sentence)
+            }
+            (false, None) => {
+                let sentence =
+                    format!("the library finds a fault, and its place was not found; {REPORT}");
+                (Kind::Internal, Place::of(section), sentence)
+            }
+        };
+        Some(Fault {
+            kind,
+            place,
+            sentence,
+        })
+    }
+}
+
 /// An entry or a leaf that uses a doubtful phone.
 #[derive(Clone, Debug)]
 pub struct User {
@@ -137,10 +170,11 @@ impl Report {
     }
 
     pub fn fault(&mut self, kind: Kind, place: Place, sentence: impl Into<String>) {
+        let sentence = sentence.into();
         self.details.push(Detail::Fault(Fault {
             kind,
             place,
-            sentence: sentence.into(),
+            sentence,
         }));
     }
 
@@ -175,5 +209,35 @@ impl Report {
             }
         }
         reasons
+    }
+}
+
+#[cfg(test)]
+mod tests {
+    use super::*;
+
+    fn judged(is_taken: bool, found: Option<&str>) -> Option<(Kind, String)> {
+        let found = found.map(|sentence| (Place::at("lex.data", 7), sentence.to_string()));
+        let fault = Fault::judged(Kind::Lexicon, "lex.data", is_taken, found)?;
+        Some((fault.kind, fault.sentence))
+    }
+
+    #[test]
+    fn the_library_and_the_search_agree_or_it_is_told() {
+        assert_eq!(judged(true, None), None);
+        assert_eq!(
+            judged(false, Some("x")),
+            Some((Kind::Lexicon, "x".to_string()))
+        );
+        let told = judged(true, Some("x")).expect("they disagree");
+        assert_eq!(told.0, Kind::Internal);
+        assert!(told
+            .1
+            .starts_with("the library finds no fault, but x; tell the makers"));
+        let told = judged(false, None).expect("they disagree");
+        assert_eq!(told.0, Kind::Internal);
+        assert!(told
+            .1
+            .starts_with("the library finds a fault, and its place was not found; tell"));
     }
 }

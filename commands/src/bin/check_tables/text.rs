@@ -2,6 +2,8 @@
 
 use std::io::{self, Write};
 
+use commands::program::one_line;
+
 use crate::report::{Detail, Place, Report, Warning};
 
 /// The most users of a phone that are named.
@@ -9,7 +11,7 @@ const MOST_NAMED: usize = 5;
 
 /// Writes a report.
 pub fn write(report: &Report, out: &mut dyn Write) -> io::Result<()> {
-    let folder = plain(&report.folder.to_string_lossy());
+    let folder = one_line(&report.folder.to_string_lossy());
     writeln!(out, "{folder}: {}", verdict(report))?;
     for line in counts(report) {
         writeln!(out, "  {line}")?;
@@ -56,7 +58,7 @@ fn counts(report: &Report) -> Vec<String> {
             let names = if unused.is_empty() {
                 "none".to_string()
             } else {
-                plain(&unused.join(" "))
+                one_line(&unused.join(" "))
             };
             lines.push(format!("phones of {name} never used: {names}"));
         }
@@ -71,11 +73,11 @@ fn line(detail: &Detail) -> String {
             format!("{section}: its form holds, {count} {things}")
         }
         Detail::Note(name, sentence) => format!("{name}: {sentence}"),
-        Detail::Fault(fault) => format!("{}: {}", shown(&fault.place), plain(&fault.sentence)),
+        Detail::Fault(fault) => format!("{}: {}", shown(&fault.place), one_line(&fault.sentence)),
         Detail::Warning(warning) => format!(
             "warning: {}: {}{}",
             shown(&warning.place),
-            plain(&warning.sentence),
+            one_line(&warning.sentence),
             users(warning)
         ),
     }
@@ -96,23 +98,11 @@ fn users(warning: &Warning) -> String {
     let named: Vec<String> = users
         .iter()
         .take(MOST_NAMED)
-        .map(|user| plain(&user.name))
+        .map(|user| one_line(&user.name))
         .collect();
     match users.len().saturating_sub(MOST_NAMED) {
         _ if users.is_empty() => "; nothing uses it".to_string(),
         0 => format!("; used by {}", named.join(", ")),
         more => format!("; used by {} and {more} more", named.join(", ")),
     }
-}
-
-/// A text in one line: control characters are written out.
-fn plain(text: &str) -> String {
-    let mut line = String::new();
-    for c in text.chars() {
-        match c.is_control() {
-            true => line.extend(c.escape_default()),
-            false => line.push(c),
-        }
-    }
-    line
 }

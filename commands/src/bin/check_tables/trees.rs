@@ -5,7 +5,7 @@ use pronouncer::{Letters, Refusal, LIST_BYTES};
 
 use crate::forms::NODE;
 use crate::numbers::{u16_at, u32_at};
-use crate::report::{Kind, Place, Report};
+use crate::report::{Kind, Place, Report, REPORT};
 
 const MODEL: &str = "lts.model";
 /// The first byte of a leaf, and the last feature.
@@ -210,7 +210,9 @@ pub fn check<'a, 'w>(
     }
     report.summary.deepest = Some(deepest);
     if let Some(word) = first_damaged(letters, words) {
-        let sentence = format!("the library meets damage at \"{word}\", and none was found");
+        let sentence = format!(
+            "the library meets damage at \"{word}\", and its place was not found; {REPORT}"
+        );
         report.fault(Kind::Internal, Place::of(MODEL), sentence);
         return None;
     }

@@ -23,20 +23,20 @@ const PROGRAM: Program = Program {
     name: "say",
     help: "\
 say [--tables FOLDER] [--entries FILE] .. [--plain] [--] [WORD ..]
-  Tells each word's source, its syllables, each behind its stress, and their phones.
-  WORD may have a tag behind a slash, as lead/v. With no word, words are read from
-  standard input and answered line by line.
-  --tables FOLDER  the folder of lex.phones, lex.index, lex.data, lts.phones, lts.index
-                   and lts.model, and of aswd.p and aswd.s for warnings; with none named
-                   it is that of PRONOUNCER_TABLES, else tables/english/sections
-  --entries FILE   lines `word tag : phones` that are added first; of several FILEs
-                   the later ones come behind
-  --plain          a word that is not found is asked in small letters, without outer
-                   punctuation, and without a last 's, 've, 'll or 'd, which is asked
-                   behind it; what was asked is told
-  --help, --version
-  Ends with 0 if all was said, 1 if something was refused or has no phones, 2 if the
-  command line cannot be understood. Refusals and warnings go to standard error.
+
+Tells each WORD's source, its syllables, each behind its stress, and their phones. A WORD may have a tag behind a
+slash, as lead/v. With no WORD, words are read from standard input, and each line is answered as it comes.
+
+  --tables FOLDER   the sections: lex.phones, lex.index, lex.data, lts.phones, lts.index and lts.model, and aswd.p and
+                    aswd.s for warnings; usually the folder that PRONOUNCER_TABLES names, or tables/english/sections
+  --entries FILE    lines `word tag : phones`, which are added first; of several files the later ones come behind
+  --plain           a word that is not found is asked in small letters, then without outer punctuation, then without
+                    a last 's, 've, 'll or 'd, which is asked behind it; what was asked stands behind ->
+  --help            this text
+  --version         the version
+
+Answers go to standard output, refusals and warnings to standard error. Ends with 0 if every WORD was said, with 1 if
+something was refused or a word from its letters has no phones, with 2 if the command line cannot be understood.
 ",
     options: &[
         Known {
@@ -88,9 +88,9 @@ impl Asked {
     }
 
     fn folder(&self) -> OsString {
-        let told = self.tables.clone();
-        told.or_else(|| env::var_os("PRONOUNCER_TABLES"))
-            .unwrap_or("tables/english/sections".into())
+        let usual = env::var_os("PRONOUNCER_TABLES").filter(|folder| !folder.is_empty());
+        let told = self.tables.clone().or(usual);
+        told.unwrap_or("tables/english/sections".into())
     }
 }
 

@@ -9,7 +9,7 @@ pub fn of(desk: &Desk, word: &Word, said: &Said) -> Option<String> {
         return None;
     }
     let name = quoted(&word.field());
-    if let Some(found) = found_plainly(desk, word) {
+    if let Some(found) = found_plainly(desk, word).filter(|_| !desk.plain) {
         return Some(format!(
             "{name} is not in the lexicon, but {found} is: type that, or use --plain"
         ));
