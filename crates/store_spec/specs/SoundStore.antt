@@ -1,4 +1,4 @@
--- 01, Store and sheet: a sound store's length, zero bytes and keys in the paper's words, each with the test that decides it, in both directions.
+-- 01, Store and sheet: a sound store's length, zero bytes and keys in the paper's words, each with the test that decides it, in both directions; and that its slots are sound ones.
 -- Assumes nothing.
 use Prim.Native.Nat.{ℕ, zero, suc, _*_, _%_, _/_, _≤_, _<_}
 use native.Mathlib.Omega.{arith}
@@ -13,9 +13,13 @@ use Rattle.texts.specs.Choice.{both-true, is-false, never}
 use Rattle.texts.specs.Lists.{every, some}
 use Rattle.texts.specs.Text.{is}
 use Rattle.records.specs.Records.{recordAt}
+use Rattle.records.specs.Chain.{All, all-map}
 use Rattle.records.specs.Between.{Zero, part-zero, zero-part}
 use Rattle.slots_spec.specs.Slot.{Entry}
+use Rattle.slots_spec.specs.SoundSlot.{SoundSlot}
+use Rattle.slots_spec.specs.Decided.{slot-sound}
 use Rattle.store_spec.specs.Store.{isStoreLength, sameKey, keysDiffer}
+use Rattle.store_spec.specs.Sound.{Slot, Sound}
 use Rattle.store_spec.specs.Laws.Keys.{either-false, key-true, key-from}
 
 -- a store's length: a multiple of 512, at least 512, up to 65,536
@@ -93,3 +97,7 @@ module _ (g : ℕ → Entry) where
       let k = key-true (g x) (g (getD xs j 0)) e in
       d 0 (suc j) (λ z. absurd (omega arith)) (omega arith) (omega arith) (sym (k .0)) (sym (k .1)))) in
       rw (n, ih)
+
+-- each slot in the chain of a sound store is a sound slot
+pub slots-sound : (b : List ℕ) (s : Sound b) → All (λ (n : ℕ). SoundSlot (recordAt 512 b n)) (s .chained)
+slots-sound b s = all-map (Slot b) (λ (n : ℕ). SoundSlot (recordAt 512 b n)) (s .chained) (λ n p. slot-sound (recordAt 512 b n) (p .sound)) (s .each)

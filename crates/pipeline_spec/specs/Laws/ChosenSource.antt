@@ -17,7 +17,7 @@ use Rattle.answers.specs.declared.Source.the-variants.{Runtime, Addenda, Compil
 use Rattle.answers.specs.declared.Looked.{Looked}
 use Rattle.answers.specs.declared.Looked.the-variants.{Refused, Nothing, Found}
 use Rattle.answers.specs.Told.{refusalNumber, sourceNumber, refused, accepted, toldLooked}
-use Rattle.answers.specs.Laws.Numbers.{never-accepted}
+use Rattle.answers.specs.Laws.Numbers.{refused-never, never-accepted}
 use Rattle.lts.specs.Call.{toldPhones, outPhones}
 use Rattle.lexicon_spec.specs.Lookup.{Finding, nothing, damaged, found, toldFinding, outFinding}
 use Rattle.pipeline_spec.specs.Pronounced.{onLetters, onFinding}
@@ -63,7 +63,7 @@ letters-held m (some ps) room l k h = let t = le-ltb (length room) (16 * length 
 -- after any other lookup the word is what comes behind it
 pub lookup-followed : (f : Finding) (m : ℕ) (o : Option (List (List ℕ))) (room : List ℕ) → length room ≡ 1536 → m ≤ 47 → Few (2 * m) o → (a : Looked) → toldLooked a .refusal ≡ 0 → toldLooked a ≡ toldFinding f room
     → (toldBehind a o (outFinding f room) ≡ toldSpoken (onFinding f o)) × (roomBehind a o (outFinding f room) ≡ cellsSpoken (onFinding f o) room)
-lookup-followed f m o room l k h (Refused r) z e = absurd (omega (arith, refusal-number r, z))
+lookup-followed f m o room l k h (Refused r) z e = refused-never r z
 lookup-followed nothing m o room l k h Nothing z e = letters-held m o room l k h
 lookup-followed nothing m o room l k h (Found s n) z e = absurd (omega (arith, source-number s, ap (λ (a : Answer). a .kind) e))
 lookup-followed damaged m o room l k h Nothing z e = absurd (omega (arith, ap (λ (a : Answer). a .refusal) e))
