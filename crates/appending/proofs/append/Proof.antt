@@ -1,4 +1,4 @@
--- `utterance::append` meets its contract: the word's items behind those used, then the ties. Assumes nothing.
+-- `appending::append` meets its contract: the word's items behind those used, then the ties. Assumes nothing.
 use borrow.Author.Needs.{needs}
 use Rattle.appending.proofs.append.Statement.{statement}
 use native.Mathlib.Omega.{arith}

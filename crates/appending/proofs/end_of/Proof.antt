@@ -1,4 +1,4 @@
--- `utterance::end_of` meets its contract: no phone passed ends a syllable, so the cuts left decide. Assumes nothing.
+-- `appending::end_of` meets its contract: no phone passed ends a syllable, so the cuts left decide. Assumes nothing.
 use borrow.Author.Needs.{needs}
 use Rattle.appending.proofs.end_of.Statement.{statement}
 use Prim.Native.Nat.{_≤_, _-_, _+_}

@@ -1,4 +1,4 @@
--- `utterance::last_syllable` meets its contract: the last of all is the last of the syllables left, behind the one passed. Assumes nothing.
+-- `appending::last_syllable` meets its contract: the last of all is the last of the syllables left, behind the one passed. Assumes nothing.
 use Rattle.appending.proofs.last_syllable.Statement.{statement}
 use Prim.Native.Nat.{ℕ, _≤_, _-_, _+_}
 use native.Mathlib.Omega.{arith}

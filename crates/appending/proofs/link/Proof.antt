@@ -1,4 +1,4 @@
--- `utterance::link` meets its contract: it chooses as the definition does. Assumes nothing.
+-- `appending::link` meets its contract: it chooses as the definition does. Assumes nothing.
 use Rattle.appending.proofs.link.Statement.{statement}
 use borrow.Author.Tests.{eq-eqb, ne-eqb}
 use native.Mathlib.Omega.{arith}

@@ -1,4 +1,4 @@
--- `utterance::next_or` meets its contract: numbers have a first where there are some. Assumes nothing.
+-- `appending::next_or` meets its contract: numbers have a first where there are some. Assumes nothing.
 use Rattle.appending.proofs.next_or.Statement.{statement}
 use mathlib.Core.Path.{sym}
 use native.Mathlib.Omega.{arith}

@@ -1,4 +1,4 @@
--- `utterance::put_item` meets its contract: the item is made in 64 bytes of its own and pasted whole. Assumes nothing.
+-- `appending::put_item` meets its contract: the item is made in 64 bytes of its own and pasted whole. Assumes nothing.
 use borrow.Author.Needs.{needs}
 use Rattle.appending.proofs.put_item.Statement.{statement}
 use Rattle.items.specs.Item.{Item}

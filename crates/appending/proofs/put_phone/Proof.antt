@@ -1,4 +1,4 @@
--- `utterance::put_phone` meets its contract: an item of kind 3 with the numbers chosen. Assumes nothing.
+-- `appending::put_phone` meets its contract: an item of kind 3 with the numbers chosen. Assumes nothing.
 use borrow.Author.Needs.{needs}
 use Rattle.appending.proofs.put_phone.Statement.{statement}
 use mathlib.Core.Path.{_∙_}

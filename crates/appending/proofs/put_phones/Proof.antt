@@ -1,4 +1,4 @@
--- `utterance::put_phones` meets its contract: the phones left, put on the sheet as it is, give what all of them give. Assumes nothing.
+-- `appending::put_phones` meets its contract: the phones left, put on the sheet as it is, give what all of them give. Assumes nothing.
 use Rattle.appending.proofs.put_phones.Statement.{statement}
 use Prim.Native.Nat.{ℕ, _≤_, _-_, _+_, _/_}
 use native.Mathlib.Omega.{arith}

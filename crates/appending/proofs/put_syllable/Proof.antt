@@ -1,4 +1,4 @@
--- `utterance::put_syllable` meets its contract: the syllable's own item, then its phones. Assumes nothing.
+-- `appending::put_syllable` meets its contract: the syllable's own item, then its phones. Assumes nothing.
 use borrow.Author.Needs.{needs}
 use Rattle.appending.proofs.put_syllable.Statement.{statement}
 use Prim.Native.Nat.{ℕ, _-_}

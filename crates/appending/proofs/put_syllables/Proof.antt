@@ -1,4 +1,4 @@
--- `utterance::put_syllables` meets its contract: the syllables left, put on the sheet as it is, give what all of them give. Assumes nothing.
+-- `appending::put_syllables` meets its contract: the syllables left, put on the sheet as it is, give what all of them give. Assumes nothing.
 use Rattle.appending.proofs.put_syllables.Statement.{statement}
 use Prim.Native.Nat.{_≤_, _-_, _+_, _/_}
 use native.Mathlib.Omega.{arith}

@@ -1,4 +1,4 @@
--- `utterance::put_word` meets its contract: the word's own item, then its syllables. Assumes nothing.
+-- `appending::put_word` meets its contract: the word's own item, then its syllables. Assumes nothing.
 use borrow.Author.Needs.{needs}
 use Rattle.appending.proofs.put_word.Statement.{statement}
 use native.Mathlib.Omega.{arith}

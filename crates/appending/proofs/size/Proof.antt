@@ -1,4 +1,4 @@
--- `utterance::size` meets its contract: what is counted and what the syllables left need is the size. Assumes nothing.
+-- `appending::size` meets its contract: what is counted and what the syllables left need is the size. Assumes nothing.
 use Rattle.appending.proofs.size.Statement.{statement}
 use Prim.Native.Nat.{_≤_, _-_, _+_, _*_}
 use native.Mathlib.Omega.{arith}

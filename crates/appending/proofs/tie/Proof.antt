@@ -1,4 +1,4 @@
--- `utterance::tie` meets its contract: its five stores are the definition's. Assumes nothing.
+-- `appending::tie` meets its contract: its five stores are the definition's. Assumes nothing.
 use borrow.Author.Needs.{needs}
 use Rattle.appending.proofs.tie.Statement.{statement}
 use native.Mathlib.Omega.{arith}

@@ -1,4 +1,4 @@
--- `call::all_rise` meets its contract: the words passed don't fall, so the words left decide. Assumes nothing.
+-- `check_lexicon::all_rise` meets its contract: the words passed don't fall, so the words left decide. Assumes nothing.
 use Rattle.compiled_spec.specs.Lexicon.{rises}
 use Rattle.compiled_spec.specs.Laws.Numbers.{below-turn, below-stop, below-end}
 use Rattle.texts.specs.Lists.{every, upTo}

@@ -1,4 +1,4 @@
--- `call::are_good` meets its contract: the entries passed are good, so the entries left decide. Assumes nothing.
+-- `check_lexicon::are_good` meets its contract: the entries passed are good, so the entries left decide. Assumes nothing.
 use Rattle.compiled_spec.specs.Lexicon.{isGood}
 use Rattle.compiled_spec.specs.Laws.Numbers.{below-turn, below-stop, below-end}
 use Rattle.texts.specs.Lists.{every, upTo}

@@ -1,4 +1,4 @@
--- `call::check_lexicon` meets its contract: sections are refused first; damage and missing phones decide before falling words. Assumes nothing.
+-- `check_lexicon` meets its contract: sections are refused first; damage and missing phones decide before falling words. Assumes nothing.
 use Rattle.compiled_spec.specs.Lexicon.{isChecked, lexicon-table}
 use Rattle.check_lexicon.specs.CheckLexicon.{checkLexicon}
 use borrow.Author.Tests.{not-true, not-false}

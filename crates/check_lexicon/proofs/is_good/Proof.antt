@@ -1,4 +1,4 @@
--- `call::is_good` meets its contract: damage decides first, then the numbers. Assumes nothing.
+-- `check_lexicon::is_good` meets its contract: damage decides first, then the numbers. Assumes nothing.
 use Rattle.compiled_spec.specs.Lexicon.{isGood}
 use borrow.Author.Tests.{not-true, not-false}
 use mathlib.Core.Path.{sym, _∙_}

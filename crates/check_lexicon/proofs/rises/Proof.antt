@@ -1,4 +1,4 @@
--- `call::rises` meets its contract: both words are the entries' words. Assumes nothing.
+-- `check_lexicon::rises` meets its contract: both words are the entries' words. Assumes nothing.
 use Rattle.compiled_spec.specs.Lexicon.{rises}
 use borrow.Author.Needs.{needs}
 use Rattle.check_lexicon.proofs.rises.Statement.{statement}

@@ -1,4 +1,4 @@
--- `utterance::new_sheet` meets its contract: refused for its length alone, else item 0 is cleared. Assumes nothing.
+-- `new_sheet` meets its contract: refused for its length alone, else item 0 is cleared. Assumes nothing.
 use borrow.Author.Needs.{needs}
 use Rattle.new_sheet.proofs.new_sheet.Statement.{statement}
 use borrow.Author.Tests.{not-true, not-false, leb-true}

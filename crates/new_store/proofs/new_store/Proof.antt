@@ -1,4 +1,4 @@
--- `store::new_store` meets its contract: refused for its length alone, else slot 0 is cleared. Assumes nothing.
+-- `new_store` meets its contract: refused for its length alone, else slot 0 is cleared. Assumes nothing.
 use borrow.Author.Tests.{not-true, not-false, leb-true}
 use native.Mathlib.Omega.{arith}
 use mathlib.Core.Path.{_≡_, sym, _∙_}

@@ -1,4 +1,4 @@
--- `syllabify::syllabify` meets its contract: each return is decided by the first refusal that applies. Assumes nothing.
+-- `syllabify` meets its contract: each return is decided by the first refusal that applies. Assumes nothing.
 use native.Mathlib.Omega.{arith}
 use Prim.Native.Nat.{ℕ, _<_, _≤_}
 use mathlib.Core.Path.{_≡_, refl, sym, ap, _∙_}

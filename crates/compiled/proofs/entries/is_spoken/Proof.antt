@@ -1,4 +1,4 @@
--- `entries::is_spoken` meets its contract: the numbers passed have phones, so the numbers left decide. Assumes nothing.
+-- `compiled::is_spoken` meets its contract: the numbers passed have phones, so the numbers left decide. Assumes nothing.
 use Rattle.compiled_spec.specs.Entries.{isSpoken}
 use Rattle.texts.specs.Lists.{every, every-turn, every-stop, every-end}
 use borrow.Author.Tests.{lt-ltb, le-ltb}

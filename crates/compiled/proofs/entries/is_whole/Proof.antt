@@ -1,4 +1,4 @@
--- `entries::is_whole` meets its contract: a part that lies outside decides first, then the word's bytes. Assumes nothing.
+-- `compiled::is_whole` meets its contract: a part that lies outside decides first, then the word's bytes. Assumes nothing.
 use Rattle.compiled_spec.specs.Entries.{whole-short, whole-told, word-cut}
 use lib.ListN.{getD}
 use mathlib.Core.Path.{_≡_, sym, _∙_}

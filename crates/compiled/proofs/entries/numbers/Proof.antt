@@ -1,4 +1,4 @@
--- `entries::numbers` meets its contract: the bytes behind the phone count, cut to it. Assumes nothing.
+-- `compiled::numbers` meets its contract: the bytes behind the phone count, cut to it. Assumes nothing.
 use Rattle.compiled_spec.specs.Entries.{numbersOf}
 use mathlib.Core.Path.{_∙_}
 use borrow.Author.Needs.{needs}

@@ -1,4 +1,4 @@
--- `entries::tag` meets its contract: the tag is the first byte. Assumes nothing.
+-- `compiled::tag` meets its contract: the tag is the first byte. Assumes nothing.
 use Rattle.compiled_spec.specs.Entries.{tagOf}
 use borrow.Author.Needs.{needs}
 use Rattle.compiled.proofs.entries.tag.Statement.{statement}

@@ -1,4 +1,4 @@
--- `entries::whole_word` meets its contract: the word of a whole entry lies inside. Assumes nothing.
+-- `compiled::whole_word` meets its contract: the word of a whole entry lies inside. Assumes nothing.
 use Rattle.compiled_spec.specs.Entries.{whole-long, word-cut}
 use native.Mathlib.Omega.{arith}
 use borrow.Author.Needs.{needs}

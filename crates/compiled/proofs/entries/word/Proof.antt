@@ -1,4 +1,4 @@
--- `entries::word` meets its contract: the bytes behind the length, cut to it. Assumes nothing.
+-- `compiled::word` meets its contract: the bytes behind the length, cut to it. Assumes nothing.
 use Rattle.compiled_spec.specs.Entries.{wordOf}
 use mathlib.Core.Path.{_∙_}
 use borrow.Author.Needs.{needs}

@@ -1,4 +1,4 @@
--- `search::choose` meets its contract: where the search ends at an entry, the rest is told from there. Assumes nothing.
+-- `compiled::choose` meets its contract: where the search ends at an entry, the rest is told from there. Assumes nothing.
 use Rattle.compiled_spec.specs.Search.{chosen}
 use mathlib.Core.Path.{sym, _∙_}
 use borrow.Author.Needs.{needs}

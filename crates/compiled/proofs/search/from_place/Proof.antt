@@ -1,4 +1,4 @@
--- `search::from_place` meets its contract: each return is decided by the first test of the definition that fails. Assumes nothing.
+-- `compiled::from_place` meets its contract: each return is decided by the first test of the definition that fails. Assumes nothing.
 use Rattle.compiled_spec.specs.Search.{fromPlace}
 use Rattle.compiled_spec.specs.Entries.{count}
 use borrow.Author.Tests.{not-true, not-false, lt-ltb, le-ltb}

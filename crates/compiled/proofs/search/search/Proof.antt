@@ -1,4 +1,4 @@
--- `search::search` meets its contract: the search so far leaves the search between lo and hi. Assumes nothing.
+-- `compiled::search` meets its contract: the search so far leaves the search between lo and hi. Assumes nothing.
 use Rattle.compiled_spec.specs.Search.{search as searched, search-end, search-damaged, search-up, search-down}
 use Rattle.compiled_spec.specs.Entries.{wordOf, isWhole, entryAt}
 use Rattle.texts.specs.Text.{smaller}

@@ -1,4 +1,4 @@
--- `search::tagged` meets its contract: the entries passed have other tags, so the run from i on decides. Assumes nothing.
+-- `compiled::tagged` meets its contract: the entries passed have other tags, so the run from i on decides. Assumes nothing.
 use Rattle.compiled_spec.specs.Search.{tagged, tagged-end, tagged-damaged, tagged-other, tagged-stop, tagged-turn}
 use Rattle.compiled_spec.specs.Entries.{tagOf, wordOf, isWhole, entryAt}
 use Rattle.texts.specs.Text.{same}

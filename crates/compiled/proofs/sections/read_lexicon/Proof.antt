@@ -1,4 +1,4 @@
--- `call::read_lexicon` meets its contract: each return is decided by the first form that is broken, and the table was read before. Assumes nothing.
+-- `compiled::read_lexicon` meets its contract: each return is decided by the first form that is broken, and the table was read before. Assumes nothing.
 use Rattle.data.specs.Places.{Placed}
 use Rattle.compiled_spec.specs.Lexicon.{isLexicon, lexicon-table}
 use borrow.Author.Tests.{not-true, not-false}

@@ -1,4 +1,4 @@
--- `fields::count_fields` meets its contract: n are passed, and those left are to be counted. Assumes nothing.
+-- `entryline::count_fields` meets its contract: n are passed, and those left are to be counted. Assumes nothing.
 use Rattle.lines.specs.Laws.Turns.{fields-none, fields-more, field-forward, fields-past}
 use Rattle.lines.specs.Lines.{isEmpty, fields}
 use lib.ListN.{length, drop}

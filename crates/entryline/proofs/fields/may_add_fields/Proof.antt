@@ -1,4 +1,4 @@
--- `fields::may_add_fields` meets its contract: the fields passed may be added, so those left decide. Assumes nothing.
+-- `entryline::may_add_fields` meets its contract: the fields passed may be added, so those left decide. Assumes nothing.
 use Rattle.lexicon_spec.specs.Adding.{mayAdd}
 use Rattle.lines.specs.Laws.Turns.{fields-none, fields-more, field-forward, fields-past}
 use Rattle.lines.specs.Lines.{isEmpty, field, fields}

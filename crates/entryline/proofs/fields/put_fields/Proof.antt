@@ -1,4 +1,4 @@
--- `fields::put_fields` meets its contract: after i fields, dst is what pasting i cells leaves. Assumes nothing.
+-- `entryline::put_fields` meets its contract: after i fields, dst is what pasting i cells leaves. Assumes nothing.
 use Rattle.lines.specs.Laws.Turns.{fields-none, fields-more, field-forward, fields-past}
 use Rattle.lines.specs.Lines.{isEmpty, field, fields, afterField}
 use Rattle.cells.specs.Cells.{cellsOf, cell, cells-turn}

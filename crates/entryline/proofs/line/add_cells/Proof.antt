@@ -1,4 +1,4 @@
--- `line::add_cells` meets its contract: room's front is the cells of the fields, whose phones are the fields. Assumes nothing.
+-- `entryline::add_cells` meets its contract: room's front is the cells of the fields, whose phones are the fields. Assumes nothing.
 use Rattle.addtext_spec.specs.Line.{lineEntry}
 use Rattle.store_spec.specs.Adding.{entryFor}
 use Rattle.lines.specs.Lines.{fields}

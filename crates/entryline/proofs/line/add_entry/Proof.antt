@@ -1,4 +1,4 @@
--- `line::add_entry` meets its contract: each return is decided by the first test of the definition that fails. Assumes nothing.
+-- `entryline::add_entry` meets its contract: each return is decided by the first test of the definition that fails. Assumes nothing.
 use Rattle.addtext_spec.specs.Line.{lineEntry, judged, onOutcome}
 use Rattle.addtext_spec.specs.Laws.Phones.{may-phones}
 use Rattle.lexicon_spec.specs.Adding.{mayAdd}

@@ -1,4 +1,4 @@
--- `line::take_content` meets its contract: blank, no colon, no word, or an entry. Assumes nothing.
+-- `entryline::take_content` meets its contract: blank, no colon, no word, or an entry. Assumes nothing.
 use Rattle.addtext_spec.specs.Line.{onContent, outcome, behindLine, on-word, on-nothing}
 use Rattle.lines.specs.Lines.{isEmpty, field, afterField, fields, stripped}
 use Rattle.texts.specs.Text.{is}

@@ -1,4 +1,4 @@
--- `line::take_line` meets its contract: the content decides. Assumes nothing.
+-- `entryline::take_line` meets its contract: the content decides. Assumes nothing.
 use Rattle.addtext_spec.specs.Line.{readLine}
 use borrow.Author.Needs.{needs}
 use Rattle.entryline.proofs.line.take_line.Statement.{statement}
