@@ -41,7 +41,7 @@ use Rattle.book.specs.Calls.{Call, makeSheet, addsEntry, addsText, saysW
 use Rattle.book.specs.Book.{Book, empty, onSpoken, accepts, keeps, hears}
 use Rattle.pipeline_spec.specs.Laws.Sources.{entries-fit}
 use Rattle.pipeline_spec.specs.Laws.Fits.{pronounced-fits}
-use Rattle.book.specs.MayStand.{phones-said}
+use Rattle.book.specs.Laws.MayStand.{phones-said}
 use Rattle.book.specs.WellCut.{WellCut, said-cut}
 use Rattle.book.specs.Claim.{Each, Holds, Tells, holds, tells}
 
