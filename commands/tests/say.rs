@@ -243,8 +243,8 @@ fn refused_entries_name_the_place() {
             "line 2, byte 3 is refused: 3, \"é\" is not ASCII. Write it with plain letters."),
         ("word", format!("\n{long} n : ay1\n"),
             &format!("line 2 is refused: 3, \"{long}\" has more than 47 bytes. Shorten it.")),
-        ("tag", format!("iris {long} : ay1\n"),
-            &format!("line 1 is refused: 3, \"{long}\" has more than 47 bytes. Shorten it.")),
+        ("tag", format!("\"{}\" {long}y {long} : ay1\n", "x".repeat(47)),
+            &format!("line 1 is refused: 3, \"{long}y\" has more than 47 bytes. Shorten it.")),
         ("colon", "# names\niris n ay1 r ih0 s\n".into(),
             "line 2 is refused: 4, a line has no colon, or no word before it. Write: word tag : phones"),
         ("phone", "iris n : ay1 r ih9 s # ih0\n".into(),
@@ -274,7 +274,7 @@ fn a_damaged_folder_is_told() {
         say(&["--tables", tables, "house"]),
         ended(1, "", &format!("house {section}"))
     );
-    let names = file(&folder, "names.txt", NAMES);
+    let names = file(&folder, "names.txt", format!("{NAMES}zoé : z\n"));
     let arguments = [
         "--tables".into(),
         folder.clone().into(),
