@@ -2,6 +2,7 @@
 
 mod running;
 
+use pronouncer::{example, PhoneList, Store, LIST_BYTES, SLOT_BYTES};
 use running::{file, folder, run};
 use std::collections::BTreeSet;
 use std::fs;
@@ -67,4 +68,14 @@ fn words_have_their_phones() {
         let has = said.out.split_whitespace().any(|told| told == phone);
         assert!(has && said.err.is_empty(), "{phone}: {said:?}");
     }
+}
+
+#[test]
+fn the_one_that_cannot_be_typed_can_be_added() {
+    let (mut slots, mut room) = ([0; 2 * SLOT_BYTES], [0; LIST_BYTES]);
+    let mut store = Store::new_store(&mut slots).expect("a store");
+    let phones = PhoneList::write("h#", &mut room).expect("a list");
+    store
+        .add_entry(&example::LEXICON, "word", "", phones)
+        .expect("it is added");
 }

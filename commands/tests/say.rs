@@ -4,7 +4,7 @@ mod running;
 
 use running::{altered, command, ended, english, file, folder, run, run_command, Ended};
 use std::ffi::OsString;
-use std::fs::File;
+use std::fs::{self, File};
 use std::io::{BufRead, BufReader, Write};
 use std::process::Stdio;
 
@@ -243,8 +243,8 @@ fn refused_entries_name_the_place() {
             "line 2, byte 3 is refused: 3, \"é\" is not ASCII. Write it with plain letters."),
         ("word", format!("\n{long} n : ay1\n"),
             &format!("line 2 is refused: 3, \"{long}\" has more than 47 bytes. Shorten it.")),
-        ("tag", format!("iris {long} : ay1\n"),
-            &format!("line 1 is refused: 3, \"{long}\" has more than 47 bytes. Shorten it.")),
+        ("tag", format!("\"{}\" {long}y {long} : ay1\n", "x".repeat(47)),
+            &format!("line 1 is refused: 3, \"{long}y\" has more than 47 bytes. Shorten it.")),
         ("colon", "# names\niris n ay1 r ih0 s\n".into(),
             "line 2 is refused: 4, a line has no colon, or no word before it. Write: word tag : phones"),
         ("phone", "iris n : ay1 r ih9 s # ih0\n".into(),
@@ -274,7 +274,7 @@ fn a_damaged_folder_is_told() {
         say(&["--tables", tables, "house"]),
         ended(1, "", &format!("house {section}"))
     );
-    let names = file(&folder, "names.txt", NAMES);
+    let names = file(&folder, "names.txt", format!("{NAMES}zoé : z\n"));
     let arguments = [
         "--tables".into(),
         folder.clone().into(),
@@ -351,6 +351,20 @@ fn plain_words_are_asked() {
         assert_eq!(said.status, Some(i32::from(word == "...")), "{word}");
         assert_eq!(said.err.is_empty(), word != "...", "{}", said.err);
     }
+}
+
+#[test]
+fn an_ending_that_is_not_found_is_not_called_found() {
+    let data = fs::read(english().join("lex.data")).expect("the section is there");
+    let at = data.windows(3).position(|bytes| bytes == b"\x02'd");
+    let mut other = data.clone();
+    other[at.expect("an entry") + 2] = b'c';
+    let tables = altered("an_ending_that_is_not_found", &[("lex.data", &other)]);
+    let out = "he'd -> he (compiled): 1 hh iy\nhe'd -> 'd (letters): 0 d\n";
+    let err = "warning: \"'d\" does not look like a word that can be said: \
+        write its letters as words, or add an entry (--entries)\n";
+    let arguments = ["--plain".into(), "--tables".into(), tables, "he'd".into()];
+    assert_eq!(run(SAY, &arguments, ""), ended(0, out, err));
 }
 
 #[test]

@@ -85,10 +85,8 @@ impl Desk<'_> {
         let said = match self.said(word) {
             Ok(said) => said,
             Err(refused) => {
-                let (name, why) = (
-                    String::from_utf8_lossy(&name),
-                    refusals::words(refused.refusal),
-                );
+                let name = String::from_utf8_lossy(&name);
+                let why = refusals::words(refused.refusal);
                 tell(format_args!("{name} is refused: {why}"));
                 return Ok(Status::Refused);
             }

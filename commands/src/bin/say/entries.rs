@@ -8,10 +8,13 @@ use commands::refusals;
 use pronouncer::{Lexicon, PhoneList, Refusal, Refused, Store};
 use pronouncer::{LARGEST_BYTES, LIST_BYTES, SLOT_BYTES, WORD_BYTES};
 
-use crate::words::fields;
+use crate::words::{fields, quoted};
 
 /// What stands at the front of a text that was saved as UTF-8 with a mark.
 const BYTE_ORDER_MARK: &[u8] = b"\xef\xbb\xbf";
+
+/// What is told of a phone that cannot be added.
+const UNKNOWN: &str = "is in neither lex.phones nor the 50 known phones. Correct its spelling.";
 
 /// Adds the entries of a file, and tells how many there were.
 pub fn add(lexicon: &Lexicon, store: &mut Store, file: &Path) -> Result<usize, Fault> {
@@ -32,25 +35,24 @@ pub fn add(lexicon: &Lexicon, store: &mut Store, file: &Path) -> Result<usize, F
 
 /// Why a text is refused as a whole.
 fn text_refused(text: &[u8], refused: Refused) -> String {
-    let Some(at) = text.iter().position(|byte| !byte.is_ascii()) else {
+    let high = text.iter().position(|byte| !byte.is_ascii());
+    let (Refusal::Text, Some(at)) = (refused.refusal, high) else {
         return format!(" are refused: {}", refusals::words(refused.refusal));
     };
-    let before = &text[..at];
-    let line = 1 + before.iter().filter(|byte| **byte == b'\n').count();
-    let byte = 1 + before
-        .iter()
-        .rev()
-        .take_while(|byte| **byte != b'\n')
-        .count();
     let why = if text.starts_with(BYTE_ORDER_MARK) {
         "a byte order mark stands there. Save the file as plain text without one.".into()
     } else {
-        format!(
-            "{} is not ASCII. Write it with plain letters.",
-            letter_at(&text[at..])
-        )
+        let letter = letter_at(&text[at..]);
+        format!("{letter} is not ASCII. Write it with plain letters.")
     };
+    let (line, byte) = place(text, at);
     format!(": line {line}, byte {byte} is refused: 3, {why}")
+}
+
+/// The line of a byte and its place there, both from 1 on.
+fn place(text: &[u8], at: usize) -> (usize, usize) {
+    let lines: Vec<&[u8]> = text[..at].split(|byte| *byte == b'\n').collect();
+    (lines.len(), 1 + lines.last().map_or(0, |line| line.len()))
 }
 
 /// The letter at the front of a text, or its first byte.
@@ -69,30 +71,32 @@ fn line_refused(lexicon: &Lexicon, text: &[u8], line: usize, refused: Refused) -
     let words = front(entry, b':');
     let phones = entry.get(words.len() + 1..).unwrap_or_default();
     let named = match refused.refusal {
-        Refusal::Text => fields(words)
-            .find(|word| word.len() > WORD_BYTES)
-            .map(|word| format!("3, {} has more than 47 bytes. Shorten it.", shown(word))),
+        Refusal::Text => too_long(words)
+            .map(|word| format!("3, {} has more than 47 bytes. Shorten it.", quoted(word))),
         Refusal::UnknownPhone => fields(phones)
             .find(|phone| !is_known(lexicon, phone))
-            .map(|phone| {
-                format!(
-                    "5, the phone {} is in neither lex.phones nor the 50 known phones. Correct its spelling.",
-                    shown(phone)
-                )
-            }),
+            .map(|phone| format!("5, the phone {} {UNKNOWN}", quoted(phone))),
         _ => None,
     };
     let why = named.unwrap_or_else(|| refusals::words(refused.refusal));
     format!(": line {line} is refused: {why}")
 }
 
+/// The word without its quote marks, or the tag, whichever has over 47 bytes.
+fn too_long(words: &[u8]) -> Option<&[u8]> {
+    let mut words = fields(words);
+    let mut word = words.next()?;
+    while let Some(inner) = word.strip_prefix(b"\"").or(word.strip_suffix(b"\"")) {
+        word = inner;
+    }
+    [word, words.next().unwrap_or_default()]
+        .into_iter()
+        .find(|text| text.len() > WORD_BYTES)
+}
+
 /// What stands before the first such byte.
 fn front(text: &[u8], end: u8) -> &[u8] {
     text.split(|byte| *byte == end).next().unwrap_or_default()
-}
-
-fn shown(text: &[u8]) -> String {
-    format!("\"{}\"", String::from_utf8_lossy(text))
 }
 
 /// Whether an entry of this phone alone could be added.

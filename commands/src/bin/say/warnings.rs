@@ -2,6 +2,7 @@
 
 use crate::desk::{Desk, Said, Word};
 use crate::plain;
+use crate::words::quoted;
 
 /// The first warning that applies.
 pub fn of(desk: &Desk, word: &Word, said: &Said) -> Option<String> {
@@ -9,7 +10,7 @@ pub fn of(desk: &Desk, word: &Word, said: &Said) -> Option<String> {
         return None;
     }
     let name = quoted(&word.field());
-    if let Some(found) = found_plainly(desk, word).filter(|_| !desk.plain) {
+    if let Some(found) = found_plainly(desk, word) {
         return Some(format!(
             "{name} is not in the lexicon, but {found} is: type that, or use --plain"
         ));
@@ -33,8 +34,11 @@ pub fn of(desk: &Desk, word: &Word, said: &Said) -> Option<String> {
     None
 }
 
-/// The word's plain form, if that is found.
+/// The word's plain form, if that is found and was not asked for.
 fn found_plainly(desk: &Desk, word: &Word) -> Option<String> {
+    if desk.plain {
+        return None;
+    }
     let plain = plain::words(desk, word);
     let is_found = plain.iter().all(|word| desk.has(word));
     let names: Vec<String> = plain.iter().map(|word| quoted(&word.field())).collect();
@@ -51,8 +55,4 @@ fn left_out(word: &[u8]) -> Option<Vec<u8>> {
     let behind = word[read..].iter();
     left_out.extend(behind.filter(|byte| !byte.is_ascii_alphabetic() && **byte != b'\''));
     (!left_out.is_empty()).then_some(left_out)
-}
-
-fn quoted(text: &[u8]) -> String {
-    format!("\"{}\"", String::from_utf8_lossy(text))
 }
