@@ -1,4 +1,4 @@
 // Runs 01's rehearsed cases and the edges of each call, with the values that 01 gives.
 fn main() {
-    casefiles::run_arguments();
+    cases::run_arguments();
 }

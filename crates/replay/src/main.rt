@@ -1,4 +1,4 @@
 // Replays the answers of the original Rust that were recorded; oracle/README.md says how.
 fn main() {
-    casefiles::run_arguments();
+    cases::run_arguments();
 }

@@ -1,7 +1,9 @@
 // Runs the files of cases that a program's arguments name, and tells how many cases of each passed.
 ghost use mathlib.Core.Path.{_≡_};
 ghost use lib.ListN.{length};
-use cases::Run;
+use crate::run::Run;
+use crate::run::run_on;
+use crate::run::start;
 use libc::STDOUT_FILENO;
 
 // Zeros for what a line hands in and expects, and for what its call writes: four times the longest store.
@@ -32,10 +34,10 @@ fn run_lines(name: &[u8], file: &[u8]) {
     let mut regs = io::large_buffer();
     let mut room = room_for_a_line();
     let mut out = room_for_a_line();
-    let mut run = cases::start();
+    let mut run = start();
     let mut left = file.len();
     while 0 < left {
-        run = cases::run_on(file, run, &mut regs, &mut room, &mut out);
+        run = run_on(file, run, &mut regs, &mut room, &mut out);
         if !run.failed {
             tell_passed(name, run.passed);
             return;

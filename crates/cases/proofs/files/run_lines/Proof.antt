@@ -1,10 +1,10 @@
--- `casefiles::run_lines` is safe and ends: it runs at most as many times as the file has bytes. Assumes nothing.
+-- `cases::run_lines` is safe and ends: it runs at most as many times as the file has bytes. Assumes nothing.
 use Prim.Native.Nat.{_≤_}
 use mathlib.Core.Path.{_≡_}
 use lib.ListN.{length}
 use borrow.Author.Needs.{needs}
-use Rattle.casefiles.proofs.run_lines.Statement.{statement}
-use Rattle.casefiles.proofs.run_lines.Tie as tie
+use Rattle.cases.proofs.files.run_lines.Statement.{statement}
+use Rattle.cases.proofs.files.run_lines.Tie as tie
 
 abbrev Inv-loop : tie.InvT-loop
 Inv-loop name file regs₀ room₀ out₀ run₀ left₀ regs room out run left = (run .at ≤ length file) × (length regs ≡ 65536) × (length room ≡ 262144) × (length out ≡ 262144)

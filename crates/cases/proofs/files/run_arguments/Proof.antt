@@ -1,8 +1,8 @@
--- `casefiles::run_arguments` is safe and ends: it runs each argument once. Assumes nothing.
+-- `cases::run_arguments` is safe and ends: it runs each argument once. Assumes nothing.
 use Prim.Native.Nat.{_≤_, _-_}
 use borrow.Author.Needs.{needs}
-use Rattle.casefiles.proofs.run_arguments.Statement.{statement}
-use Rattle.casefiles.proofs.run_arguments.Tie as tie
+use Rattle.cases.proofs.files.run_arguments.Statement.{statement}
+use Rattle.cases.proofs.files.run_arguments.Tie as tie
 
 abbrev Inv-loop : tie.InvT-loop
 Inv-loop count k₀ k = 1 ≤ k
