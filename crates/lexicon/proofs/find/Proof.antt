@@ -1,4 +1,5 @@
 -- `lexicon::find` meets its contract: the store, the addenda and the compiled entries, in that order. Assumes nothing.
+use native.Mathlib.Omega.{arith}
 use Rattle.lexicon_spec.specs.Lookup.{find-runtime, find-row, find-compiled}
 use Rattle.store_spec.specs.Laws.Found.{tells, foundAt, found-none, found-some}
 use Rattle.store_spec.specs.Sound.{sound}
@@ -25,7 +26,7 @@ runtime-requires : tie.Need-runtime-requires
 runtime-requires c κs = c .before .before .before .before .before .before .before .pre .1 .2
 
 slot-requires : tie.Need-slot-requires
-slot-requires c κs = c .before .runtime .ensures .1
+slot-requires c κs = omega (arith, c .before .runtime .ensures .1)
 
 phones-requires : tie.Need-phones-requires
 phones-requires c κs = search needs
@@ -50,7 +51,7 @@ find-requires : tie.Need-find-requires
 find-requires c κs = search needs
 
 give-row-requires : tie.Need-give-row-requires
-give-row-requires c κs = c .before .if2 .taken
+give-row-requires c κs = omega (arith, c .before .if2 .taken)
 
 same-length-2 : tie.Need-same-length-2
 same-length-2 c = c .before .before .give-row .kept .1 .0
