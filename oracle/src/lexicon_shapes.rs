@@ -3,10 +3,11 @@
 use crate::lexicons::{entry_bytes, index, sections, Lexicon, Row, Sections};
 use crate::phones::Phones;
 use crate::random::Random;
-use crate::shrink::{parts, shorter, without};
-use crate::trees::phone_table;
+use crate::shrink::{parts, shorter, without, Smaller};
+use crate::tables::{self, phone_table, put};
 use crate::words;
 use original::lexicon::probe;
+use std::ops::Range;
 use std::rc::Rc;
 
 /// A lexicon, and words to try on it: some of its own, some of the addenda, and others.
@@ -59,11 +60,12 @@ pub fn few_to_record(random: &mut Random, phones: &Phones) -> Shape {
 
 /// A lexicon that only names phones.
 pub fn of_phones(random: &mut Random, phones: &Phones) -> Lexicon {
-    Lexicon::of(&names(random, phones), &[])
+    let names = tables::names(random, |random| phones.phone(random));
+    Lexicon::of(&names, &[])
 }
 
 fn plan(random: &mut Random, phones: &Phones, most: usize) -> Shape {
-    let names = names(random, phones);
+    let names = tables::names(random, |random| phones.phone(random));
     let alphabet = words::alphabet(random);
     let rows = rows(random, most, &alphabet, names.len());
     let mut words: Vec<Vec<u8>> = vec![];
@@ -82,18 +84,6 @@ fn plan(random: &mut Random, phones: &Phones, most: usize) -> Shape {
 /// The words of the addenda.
 pub fn addenda() -> Vec<&'static str> {
     probe::addenda().iter().map(|(_, word, _)| *word).collect()
-}
-
-/// The names of a phone table.
-fn names(random: &mut Random, phones: &Phones) -> Vec<Vec<u8>> {
-    let count = match random.weighted(&[1, 2, 12, 8, 2]) {
-        0 => 0,
-        1 => 1,
-        2 => random.between(2, 12),
-        3 => random.between(13, 80),
-        _ => 256,
-    };
-    (0..count).map(|_| phones.phone(random)).collect()
 }
 
 /// Entries, many of them homographs; three of four times their words do not fall.
@@ -127,7 +117,7 @@ fn rows(random: &mut Random, most: usize, alphabet: &[u8], names: usize) -> Vec<
                 }
             }
         }
-        2 => shuffle(random, &mut rows),
+        2 => random.shuffle(&mut rows),
         _ => rows.sort_by(|a, b| (&a.word, a.tag).cmp(&(&b.word, b.tag))),
     }
     rows
@@ -184,7 +174,7 @@ fn numbers(random: &mut Random, names: usize) -> Vec<u8> {
 fn laid_out(random: &mut Random, names: &[Vec<u8>], rows: &[Row]) -> Sections {
     let mut order: Vec<usize> = (0..rows.len()).collect();
     if random.once_in(4) {
-        shuffle(random, &mut order);
+        random.shuffle(&mut order);
     }
     let gaps = random.once_in(4);
     let mut data = vec![];
@@ -209,12 +199,6 @@ fn laid_out(random: &mut Random, names: &[Vec<u8>], rows: &[Row]) -> Sections {
         sections.data.extend(random.bytes(more));
     }
     sections
-}
-
-fn shuffle<T>(random: &mut Random, list: &mut [T]) {
-    for i in (1..list.len()).rev() {
-        list.swap(i, random.between(0, i));
-    }
 }
 
 /// Breaks the form of a section, damages an entry, or alters any byte.
@@ -314,58 +298,36 @@ pub fn broken_table(random: &mut Random, lexicon: &Lexicon) -> Rc<Lexicon> {
 }
 
 fn break_phones(random: &mut Random, table: &mut Vec<u8>, names: usize) {
-    match random.below(4) {
-        0 => table.truncate(random.below(table.len() + 1)),
-        1 => {
-            let count = random.between(names + 1, 300) as u32;
-            put(table, 0, &count.to_le_bytes());
-        }
-        2 => put(table, 4, &[random.between(16, 255) as u8]),
-        _ => {
-            let at = random.below(table.len() + 1);
-            put(table, at, &[128 + random.below(128) as u8]);
-        }
-    }
-}
-
-/// Writes bytes into a section, where it is long enough.
-fn put(section: &mut [u8], at: usize, bytes: &[u8]) {
-    if let Some(place) = section.get_mut(at..at + bytes.len()) {
-        place.copy_from_slice(bytes);
-    }
+    let way = random.below(tables::BREAKS);
+    tables::break_form(random, table, names, way);
 }
 
 /// Lexicons with something left out, for shrinking.
 pub fn smaller(lexicon: &Lexicon) -> Vec<Rc<Lexicon>> {
     let given = &lexicon.sections;
-    let mut all = vec![];
-    match (&lexicon.names, &lexicon.offsets) {
+    let smaller = Smaller::of(given);
+    let all = match (&lexicon.names, &lexicon.offsets) {
         (Some(names), Some(offsets)) => {
-            let names_left = shorter(names);
-            all.extend(names_left.iter().map(|names| Sections {
-                phones: phone_table(names),
-                ..given.clone()
-            }));
+            let mut all = smaller
+                .with(shorter(names), |s, names| s.phones = phone_table(&names))
+                .all;
             let rows: Result<Vec<Row>, _> = (0..lexicon.count())
                 .map(|i| lexicon.entry(i).map(Row::from))
                 .collect();
-            match rows {
-                Ok(rows) => all.extend(fewer_rows(given, names, &rows)),
-                Err(_) => all.extend(fewer_bytes(given, offsets)),
-            }
+            all.extend(match rows {
+                Ok(rows) => fewer_rows(given, names, &rows),
+                Err(_) => fewer_bytes(given, offsets),
+            });
+            all
         }
         _ => {
-            let parts: [fn(&mut Sections) -> &mut Vec<u8>; 3] =
-                [|s| &mut s.data, |s| &mut s.index, |s| &mut s.phones];
-            for part in parts {
-                for bytes in shorter(part(&mut given.clone())) {
-                    let mut sections = given.clone();
-                    *part(&mut sections) = bytes;
-                    all.push(sections);
-                }
-            }
+            smaller
+                .with(shorter(&given.data), |s, data| s.data = data)
+                .with(shorter(&given.index), |s, index| s.index = index)
+                .with(shorter(&given.phones), |s, phones| s.phones = phones)
+                .all
         }
-    }
+    };
     all.into_iter().map(Lexicon::new).map(Rc::new).collect()
 }
 
@@ -385,43 +347,29 @@ fn fewer_rows(given: &Sections, names: &[Vec<u8>], rows: &[Row]) -> Vec<Sections
             rows[i] = row;
             all.push(sections(names, &rows));
         };
-        for numbers in shorter(&rows[i].numbers) {
-            change(Row {
-                numbers,
-                ..rows[i].clone()
-            });
-        }
-        for word in shorter(&rows[i].word) {
-            change(Row {
-                word,
-                ..rows[i].clone()
-            });
-        }
+        let plainer = Smaller::of(&rows[i])
+            .with(shorter(&rows[i].numbers), |row, numbers| {
+                row.numbers = numbers
+            })
+            .with(shorter(&rows[i].word), |row, word| row.word = word);
+        plainer.all.into_iter().for_each(&mut change);
     }
     all
 }
 
 /// Offsets left out, or bytes, behind which the offsets move.
 fn fewer_bytes(given: &Sections, offsets: &[usize]) -> Vec<Sections> {
-    let mut all = vec![];
-    for offsets in shorter(offsets) {
-        all.push(Sections {
-            index: index(&offsets),
-            ..given.clone()
-        });
-    }
-    for part in parts(given.data.len()) {
+    let cut = |sections: &mut Sections, part: Range<usize>| {
         let moved = |offset: &usize| match *offset {
             offset if offset >= part.end => offset - part.len(),
             offset if offset > part.start => part.start,
             offset => offset,
         };
-        let offsets: Vec<usize> = offsets.iter().map(moved).collect();
-        all.push(Sections {
-            index: index(&offsets),
-            data: without(&given.data, &part),
-            ..given.clone()
-        });
-    }
-    all
+        sections.index = index(&offsets.iter().map(moved).collect::<Vec<usize>>());
+        sections.data = without(&given.data, &part);
+    };
+    Smaller::of(given)
+        .with(shorter(offsets), |s, offsets| s.index = index(&offsets))
+        .with(parts(given.data.len()), cut)
+        .all
 }

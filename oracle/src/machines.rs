@@ -1,6 +1,8 @@
 //! The two tables of the sayable machines, and the original's reading of them.
 
 use crate::forever::{hold, Held};
+use crate::lent::Part;
+use crate::notation::Form;
 use crate::random::Random;
 use crate::words;
 use original::language::Sayable;
@@ -18,15 +20,17 @@ pub struct Machines {
 
 impl Machines {
     pub fn new(sections: [Vec<u8>; 2], alphabet: Vec<u8>) -> Machines {
-        let original = sections.iter().all(|s| s.len() >= HEAD).then(|| {
-            let parts = [("aswd.p", &sections[0][..]), ("aswd.s", &sections[1][..])];
-            hold(&parts, Sayable::parse)
-        });
+        let has_form = sections.iter().all(|s| s.len() >= HEAD);
+        let original = has_form.then(|| hold(&parts(&sections), Sayable::parse));
         Machines {
             sections,
             alphabet,
             original,
         }
+    }
+
+    pub fn parts(&self) -> [Part<'_>; 2] {
+        parts(&self.sections)
     }
 
     /// Whether both sections have 01's form.
@@ -45,6 +49,13 @@ impl Machines {
         let cells = self.sections[side][HEAD..].chunks_exact(2);
         cells.map(|c| u16::from_le_bytes([c[0], c[1]])).collect()
     }
+}
+
+fn parts([prefix, suffix]: &[Vec<u8>; 2]) -> [Part<'_>; 2] {
+    [
+        Part::read("aswd.p", Form::Bytes, prefix),
+        Part::read("aswd.s", Form::Bytes, suffix),
+    ]
 }
 
 /// A section of these cells.

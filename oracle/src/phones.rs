@@ -39,8 +39,8 @@ const ODD: [&str; 24] = [
     "a-b",
 ];
 
-impl Phones {
-    pub fn new() -> Phones {
+impl Default for Phones {
+    fn default() -> Phones {
         let names = phoneset::probe::names();
         let (vowels, consonants) = names.iter().partition(|name| phoneset::is_vowel(name));
         Phones {
@@ -50,7 +50,9 @@ impl Phones {
             onsets: lexicon::probe::onsets(),
         }
     }
+}
 
+impl Phones {
     /// One phone, now and then an odd one.
     pub fn phone(&self, random: &mut Random) -> Vec<u8> {
         match random.weighted(&[6, 3, 2, 1]) {

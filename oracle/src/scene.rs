@@ -1,7 +1,10 @@
 //! A lexicon beside a store, and the original with the same runtime entries.
 
 use crate::forever::{hold_texts, Held};
+use crate::lent::Part;
+use crate::lexicon_shapes;
 use crate::lexicons::Lexicon;
+use crate::store_shapes;
 use crate::stores::{self, Entry, Placed};
 use original::lexicon::{self, probe};
 use std::rc::Rc;
@@ -24,8 +27,11 @@ pub struct Add {
     pub phones: Vec<Vec<u8>>,
 }
 
+/// The word and the tag of an entry.
+pub type Key = (Vec<u8>, u8);
+
 /// The word and the tag that an entry gets: the word folded; "0" for no tag and for "nil".
-pub fn key(word: &[u8], tag: &[u8]) -> (Vec<u8>, u8) {
+pub fn key(word: &[u8], tag: &[u8]) -> Key {
     let tag = match tag {
         b"" | b"nil" => b'0',
         tag => tag[0],
@@ -81,6 +87,21 @@ impl Scene {
         Rc::new(Scene::new(lexicon, self.store.clone()))
     }
 
+    /// Scenes with something left out, for shrinking.
+    pub fn smaller(&self) -> Vec<Rc<Scene>> {
+        let lexicons = lexicon_shapes::smaller(&self.lexicon);
+        let lexicons = lexicons.iter().map(|lexicon| self.with_lexicon(lexicon));
+        let stores = store_shapes::smaller(&self.store).into_iter();
+        let stores = stores.map(|store| self.with_store(store));
+        lexicons.chain(stores).collect()
+    }
+
+    /// The phone table of the lexicon, which is all that adding takes of it.
+    pub fn table_part(&self) -> Part<'_> {
+        let [table, ..] = self.lexicon.sections.parts();
+        table
+    }
+
     /// The original with the store's entries, where store and sections are accepted.
     pub fn original(&self) -> &lexicon::Lexicon {
         let held = self.original.as_ref();
@@ -101,7 +122,7 @@ impl Scene {
 
     /// The store when the original's list has become this one by adds of these keys: a known key keeps
     /// its slot, a new one takes the next, and the chain is the list's order.
-    pub fn store_of(&self, keys: &[(Vec<u8>, u8)], list: &[Entry]) -> Result<Vec<u8>, String> {
+    pub fn store_of(&self, keys: &[Key], list: &[Entry]) -> Result<Vec<u8>, String> {
         let mut slots = self.slots();
         for key in keys {
             if slots.iter().all(|(known, _)| known != key) {
@@ -129,7 +150,7 @@ impl Scene {
     }
 
     /// The keys of the store, with their slots.
-    fn slots(&self) -> Vec<((Vec<u8>, u8), usize)> {
+    fn slots(&self) -> Vec<(Key, usize)> {
         let slot = |placed: &Placed| {
             let (word, tag) = placed.entry.key();
             ((word.to_vec(), tag), placed.slot)
@@ -137,8 +158,13 @@ impl Scene {
         self.entries().iter().map(slot).collect()
     }
 
+    /// The keys of the store, the oldest first.
+    pub fn keys(&self) -> Vec<Key> {
+        self.slots().into_iter().map(|(key, _)| key).collect()
+    }
+
     /// The slot that an entry of this key has, or would get.
-    pub fn slot_for(&self, key: &(Vec<u8>, u8)) -> usize {
+    pub fn slot_for(&self, key: &Key) -> usize {
         let slots = self.slots();
         let known = slots.iter().find(|(known, _)| known == key);
         known.map_or(slots.len() + 1, |(_, slot)| *slot)
@@ -147,7 +173,7 @@ impl Scene {
     /// The store grown by adds, which the original makes; those without room are left out.
     pub fn grown(&self, adds: &[Add]) -> Vec<u8> {
         let mut keys = vec![];
-        let mut known: Vec<_> = self.slots().into_iter().map(|(key, _)| key).collect();
+        let mut known = self.keys();
         let (_, list) = self.changed(|lexicon| {
             for add in adds {
                 let key = key(&add.word, &add.tag);

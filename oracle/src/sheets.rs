@@ -1,5 +1,6 @@
 //! The sheet: 01's layout, read and written by the driver itself.
 
+use crate::records::{number, put, zeros};
 use crate::spoken::{Syllable, Word};
 use crate::words;
 
@@ -163,19 +164,19 @@ impl Tree<'_> {
 }
 
 fn read_word(item: &[u8]) -> Result<Vec<u8>, &'static str> {
-    if item[STRESS] != 0 {
-        return Err("sheet: stress of a word or a phone");
+    has_no_phone_links(item)?;
+    read_text(item, words::LONGEST, "sheet: word over 47 bytes")
+}
+
+fn has_no_phone_links(item: &[u8]) -> Result<(), &'static str> {
+    match zeros(&item[BEFORE..LINKS_END]) {
+        true => Ok(()),
+        false => Err("sheet: phone links of a word or a syllable"),
     }
-    if !zeros(&item[BEFORE..LINKS_END]) {
-        return Err("sheet: phone links of a word or a syllable");
-    }
-    read_text(item, words::LONGEST).ok_or("sheet: word over 47 bytes")?
 }
 
 fn read_syllable(item: &[u8]) -> Result<u8, &'static str> {
-    if !zeros(&item[BEFORE..LINKS_END]) {
-        return Err("sheet: phone links of a word or a syllable");
-    }
+    has_no_phone_links(item)?;
     if !zeros(&item[LEN..]) {
         return Err("sheet: syllable with a text");
     }
@@ -186,27 +187,27 @@ fn read_syllable(item: &[u8]) -> Result<u8, &'static str> {
 }
 
 fn read_phone(item: &[u8]) -> Result<Vec<u8>, &'static str> {
-    if item[STRESS] != 0 {
-        return Err("sheet: stress of a word or a phone");
-    }
     if !zeros(&item[FIRST..PARENT]) {
         return Err("sheet: child of a phone");
     }
-    read_text(item, LONGEST_PHONE).ok_or("sheet: phone over 15 bytes")?
+    read_text(item, LONGEST_PHONE, "sheet: phone over 15 bytes")
 }
 
-/// The text of an item, or what is amiss with it; none if it is too long.
-fn read_text(item: &[u8], longest: usize) -> Option<Result<Vec<u8>, &'static str>> {
+/// The text of a word or a phone, or what is amiss with it.
+fn read_text(item: &[u8], longest: usize, too_long: &'static str) -> Result<Vec<u8>, &'static str> {
     let len = usize::from(item[LEN]);
+    if item[STRESS] != 0 {
+        return Err("sheet: stress of a word or a phone");
+    }
     if len > longest {
-        return None;
+        return Err(too_long);
     }
     let (text, past) = item[TEXT..].split_at(len);
-    Some(match (text.is_ascii(), zeros(past)) {
+    match (text.is_ascii(), zeros(past)) {
         (false, _) => Err("sheet: text with a high byte"),
         (_, false) => Err("sheet: bytes past a text"),
         _ => Ok(text.to_vec()),
-    })
+    }
 }
 
 /// An item before it is written.
@@ -236,7 +237,7 @@ impl Item<'_> {
             (BEFORE, self.before),
             (BEHIND, self.behind),
         ] {
-            item[field..field + 2].copy_from_slice(&(value as u16).to_le_bytes());
+            put(item, field, value);
         }
         item[LEN] = self.text.len() as u8;
         item[TEXT..TEXT + self.text.len()].copy_from_slice(self.text);
@@ -268,7 +269,7 @@ pub fn write(sheet: &[u8], placed: &[Placed]) -> Vec<u8> {
     let at = |list: &[usize], i: usize| *list.get(i).unwrap_or(&0);
     Item {
         children: &words,
-        parent: placed.iter().map(|placed| placed.items.len()).sum(),
+        parent: used(placed),
         before: *phones.last().unwrap_or(&0),
         behind: at(&phones, 0),
         ..Item::default()
@@ -317,7 +318,7 @@ pub fn write(sheet: &[u8], placed: &[Placed]) -> Vec<u8> {
 /// The sheet with one more word, whose items are the next ones in their order. The driver checks itself: its
 /// reader must find what it wrote, and no byte may differ that the word has no part in.
 pub fn with_word(sheet: &[u8], before: &[Placed], word: &Word) -> Vec<u8> {
-    let used: usize = before.iter().map(|placed| placed.items.len()).sum();
+    let used = used(before);
     let mut words = before.to_vec();
     words.push(Placed {
         word: word.clone(),
@@ -348,6 +349,18 @@ pub fn with_word(sheet: &[u8], before: &[Placed], word: &Word) -> Vec<u8> {
         "the driver writes a byte that the word has no part in"
     );
     after
+}
+
+/// How many items these words have.
+pub fn used(placed: &[Placed]) -> usize {
+    placed.iter().map(|placed| placed.items.len()).sum()
+}
+
+/// The same words in other items.
+pub fn renumber(placed: &mut [Placed], number: impl Fn(usize) -> usize) {
+    for item in placed.iter_mut().flat_map(|placed| &mut placed.items) {
+        *item = number(*item);
+    }
 }
 
 /// A new sheet over some bytes.
@@ -435,12 +448,4 @@ pub fn reading(sheet: &[u8]) -> Option<Reading> {
         forwards: texts(&chain(field(0, BEHIND), BEHIND)?)?,
         backwards: texts(&chain(field(0, BEFORE), BEFORE)?)?,
     })
-}
-
-fn zeros(bytes: &[u8]) -> bool {
-    bytes.iter().all(|b| *b == 0)
-}
-
-fn number(bytes: &[u8]) -> usize {
-    usize::from(u16::from_le_bytes([bytes[0], bytes[1]]))
 }

@@ -77,3 +77,25 @@ pub fn shorter<T: Clone>(list: &[T]) -> Vec<Vec<T>> {
         .map(|part| without(list, part))
         .collect()
 }
+
+/// Smaller inputs, one behind the other.
+pub struct Smaller<'a, I> {
+    input: &'a I,
+    pub all: Vec<I>,
+}
+
+impl<'a, I: Clone> Smaller<'a, I> {
+    pub fn of(input: &'a I) -> Smaller<'a, I> {
+        Smaller { input, all: vec![] }
+    }
+
+    /// The input with each of these in the place of what it has.
+    pub fn with<T>(mut self, others: Vec<T>, put: impl Fn(&mut I, T)) -> Smaller<'a, I> {
+        for other in others {
+            let mut input = self.input.clone();
+            put(&mut input, other);
+            self.all.push(input);
+        }
+        self
+    }
+}

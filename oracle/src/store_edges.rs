@@ -1,6 +1,7 @@
 //! Stores for the short inputs: every small one, and stores at 01's limits and just past them.
 
 use crate::lexicons::Lexicon;
+use crate::records;
 use crate::scene::{Add, Scene};
 use crate::stores::{self, Placed, LARGEST, SLOT};
 use std::rc::Rc;
@@ -57,21 +58,7 @@ pub fn good() -> Vec<u8> {
 
 /// The good store with each of its bytes altered.
 pub fn altered_bytes() -> Vec<Vec<u8>> {
-    let good = good();
-    let mut all = vec![];
-    for at in 0..good.len() {
-        let byte = good[at];
-        for value in [0, 1, 2, 3, 24, 65, 128, 255, byte ^ 1, byte.wrapping_add(1)] {
-            // many values only where there are fields
-            if value == byte || at % SLOT > 70 && value > 2 {
-                continue;
-            }
-            let mut store = good.clone();
-            store[at] = value;
-            all.push(store);
-        }
-    }
-    all
+    records::altered(&good(), SLOT, 70, &[0, 1, 2, 3, 24, 65, 128, 255])
 }
 
 /// Stores at 01's limits, and just past them.
@@ -185,20 +172,16 @@ fn unsound() -> Vec<Vec<u8>> {
     all
 }
 
-/// What a sound store has, for the table.
-pub fn features(store: &[u8], entries: &[Placed]) -> Vec<&'static str> {
-    let ordered = (1..).zip(entries).all(|(slot, placed)| slot == placed.slot);
-    let unused = &store[stores::unused(store)..];
-    let rows = [
-        ("store without entries", entries.is_empty()),
-        (
-            "store with every slot used",
-            !entries.is_empty() && unused.is_empty(),
-        ),
-        ("store of 127 entries", entries.len() == 127),
-        ("store in another order than its slots", !ordered),
-        ("anything in unused slots", unused.iter().any(|b| *b != 0)),
-    ];
-    let met = rows.iter().filter(|row| row.1);
-    met.map(|row| row.0).collect()
+rows! {
+    /// What a sound store has.
+    pub STORE: features(store: &[u8], entries: &[Placed]) {
+        let ordered = (1..).zip(entries).all(|(slot, placed)| slot == placed.slot);
+        let unused = &store[stores::unused(store)..];
+    } [
+        "store without entries" => entries.is_empty(),
+        "store with every slot used" => !entries.is_empty() && unused.is_empty(),
+        "store of 127 entries" => entries.len() == 127,
+        "store in another order than its slots" => !ordered,
+        "anything in unused slots" => !records::zeros(unused),
+    ]
 }

@@ -1,6 +1,7 @@
 //! The store: 01's layout, read and written by the driver itself.
 
-use crate::cells::{cell, text, CELL};
+use crate::cells::{cell, is_over, text, CELL};
+use crate::records::{number, put, zeros};
 use crate::words;
 
 /// Bytes of a slot.
@@ -157,7 +158,7 @@ fn read_slot(slot: &[u8]) -> Result<Entry, &'static str> {
 fn read_phone(bytes: &[u8]) -> Result<Vec<u8>, &'static str> {
     let bytes: &[u8; CELL] = bytes.try_into().expect("a chunk is a cell");
     let phone = text(bytes);
-    if usize::from(bytes[0]) >= CELL {
+    if is_over(bytes) {
         return Err("store: phone over 15 bytes");
     }
     if !phone.is_ascii() {
@@ -222,16 +223,4 @@ pub fn stray(before: &[u8], after: &[u8], key_slot: usize) -> Option<usize> {
     (0..before.len())
         .filter(altered)
         .find(|at| !touched(*at) || *at >= unused(after))
-}
-
-fn zeros(bytes: &[u8]) -> bool {
-    bytes.iter().all(|b| *b == 0)
-}
-
-fn number(bytes: &[u8]) -> usize {
-    usize::from(u16::from_le_bytes([bytes[0], bytes[1]]))
-}
-
-fn put(bytes: &mut [u8], at: usize, value: usize) {
-    bytes[at..at + 2].copy_from_slice(&(value as u16).to_le_bytes());
 }

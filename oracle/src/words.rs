@@ -1,6 +1,9 @@
-//! Words: over an alphabet, of every length.
+//! Words: over an alphabet, of every length; and their tags.
 
+use crate::lent::Part;
+use crate::notation::Form;
 use crate::random::Random;
+use crate::shrink::{shorter, Smaller};
 
 /// The longest word that 01 accepts.
 pub const LONGEST: usize = 47;
@@ -15,6 +18,71 @@ const ALPHABETS: [&[u8]; 7] = [
     b"abcdeinstABCDEINST0123456789'-#",
     b"zaeiouynmNM#'- 09AZ@[`{",
 ];
+
+/// A word and its tag, as a call is given them.
+#[derive(Clone, PartialEq, Eq)]
+pub struct Wanted {
+    pub word: Vec<u8>,
+    pub tag: Vec<u8>,
+}
+
+impl Wanted {
+    pub fn new(word: impl Into<Vec<u8>>, tag: impl Into<Vec<u8>>) -> Wanted {
+        Wanted {
+            word: word.into(),
+            tag: tag.into(),
+        }
+    }
+
+    /// Whether it is refused by 3.
+    pub fn is_refused(&self) -> bool {
+        is_refused(&self.word) || is_refused(&self.tag)
+    }
+
+    pub fn parts(&self) -> [Part<'_>; 2] {
+        [
+            word_part(&self.word),
+            Part::read("the tag", Form::Text, &self.tag),
+        ]
+    }
+
+    pub fn smaller(&self) -> Vec<Wanted> {
+        Smaller::of(self)
+            .with(shorter(&self.word), |wanted, word| wanted.word = word)
+            .with(shorter(&self.tag), |wanted, tag| wanted.tag = tag)
+            .all
+    }
+
+    /// What it has, for the table.
+    pub fn met(&self) -> Vec<&'static str> {
+        [of_word(&self.word), of_tag(&self.tag)].concat()
+    }
+}
+
+pub fn word_part(word: &[u8]) -> Part<'_> {
+    Part::read("the word", Form::Text, word)
+}
+
+rows! {
+    /// What a word has.
+    pub WORD: of_word(word: &[u8]) [
+        "empty word" => word.is_empty(),
+        "word of 47 bytes" => word.len() == LONGEST,
+        "capital letter" => word.to_ascii_lowercase() != word,
+    ]
+}
+
+rows! {
+    /// What a tag has.
+    pub TAG: of_tag(tag: &[u8]) [
+        "tag empty" => tag.is_empty(),
+        "tag 'nil'" => tag == b"nil",
+        "tag '0'" => tag == b"0",
+        "tag of one byte" => tag.len() == 1,
+        "tag of more bytes" => tag.len() > 1 && tag != b"nil",
+        "tag of 47 bytes" => tag.len() == LONGEST,
+    ]
+}
 
 /// Letters that a set of tables and its words share, so that questions match; now and then all of ASCII.
 pub fn alphabet(random: &mut Random) -> Vec<u8> {
@@ -44,6 +112,13 @@ pub fn accepted(random: &mut Random, alphabet: &[u8]) -> Vec<u8> {
         false => random.pick_byte(alphabet),
     };
     (0..len).map(&mut letter).collect()
+}
+
+/// A word for the list: the edge of this number, if there is one, or any.
+pub fn to_record(random: &mut Random, alphabet: &[u8], edge: Option<usize>) -> Vec<u8> {
+    let mut edges = edges().into_iter().filter(|word| !is_refused(word));
+    let edge = edge.and_then(|i| edges.nth(i));
+    edge.unwrap_or_else(|| accepted(random, alphabet))
 }
 
 /// A word; one in forty is refused.
@@ -78,12 +153,10 @@ pub fn tag(random: &mut Random) -> Vec<u8> {
 
 /// Tags that the rules tell apart, and tags at 01's limits.
 pub fn tags() -> Vec<Vec<u8>> {
-    let mut tags: Vec<Vec<u8>> = [
+    let plain = [
         "", "nil", "n", "v", "0", "N", "NIL", "nill", "nn", "0n", "\0",
-    ]
-    .iter()
-    .map(|tag| tag.as_bytes().to_vec())
-    .collect();
+    ];
+    let mut tags: Vec<Vec<u8>> = plain.map(Vec::from).to_vec();
     tags.extend([46, 47, 48, 256].map(|len| vec![b'n'; len]));
     tags.extend([127, 128, 255].map(|b| vec![b]));
     tags.push(vec![b'n', 128]);
@@ -136,36 +209,9 @@ pub fn every(alphabet: &[u8], longest: usize) -> Vec<Vec<u8>> {
 
 /// Words at 01's limits.
 pub fn edges() -> Vec<Vec<u8>> {
-    let mut words: Vec<Vec<u8>> = [
-        "",
-        "a",
-        "A",
-        "z",
-        "Z",
-        "a#",
-        "#a",
-        "a#b",
-        "#",
-        "##",
-        "ab",
-        "ba",
-        "tempo#two",
-        "two",
-        "a%a",
-        "a#7",
-        "don't",
-        "_a",
-        "in",
-        ",",
-        "Email",
-        "@",
-        "[",
-        "`",
-        "{",
-    ]
-    .iter()
-    .map(|word| word.as_bytes().to_vec())
-    .collect();
+    let plain = "a A z Z a# #a a#b # ## ab ba tempo#two two a%a a#7 don't _a in , Email @ [ ` {";
+    let mut words: Vec<Vec<u8>> = plain.split(' ').map(Vec::from).collect();
+    words.insert(0, vec![]);
     for len in [46, 47, 48, 49, 255, 256] {
         words.push(vec![b'a'; len]);
         words.push(LETTERS.iter().cycle().take(len).copied().collect());

@@ -1,11 +1,13 @@
 //! new_store: the first record of a store, written whole. The original has no such call; 01 says what is
 //! expected.
 
-use crate::call::{Call, Expected, Outcome};
-use crate::lent::{altered, Lent};
-use crate::notation;
-use crate::ours::{self, Answer};
+use crate::call::{Call, Rows, Ruling, Told};
+use crate::lent::Part;
+use crate::notation::Form;
+use crate::ours::{self, Answer, Function};
 use crate::random::Random;
+use crate::records::{self, filled, zeros};
+use crate::rows::Met;
 use crate::shrink::shorter;
 use crate::store_edges;
 use crate::store_shapes;
@@ -18,21 +20,12 @@ impl Call for NewStore {
     type Input = Vec<u8>;
     const NAME: &'static str = "new_store";
     const SHARE: usize = 2;
-    const SHARE_RECORDED: usize = 0;
-    const ANSWERS: &'static [&'static str] = &["new", "refusal 2"];
-    const MET: &'static [&'static str] = &[
-        "store that is sound",
-        "store that is not",
-        "store of one slot",
-        "store of 65,536 bytes",
-        "later slots that stay as they are",
-        "refusal 2: over 65,536 bytes",
-        "refusal 2: no multiple of 512",
-        "refusal 2: no bytes",
-    ];
+    const ANSWERS: Rows = &["new"];
+    const REFUSALS: &'static [u32] = &[2];
+    const MET: &'static [Rows] = &[BEFORE, LENGTH];
+    const LIBRARY: Function = ours::new_store;
 
     fn short(&self) -> Vec<Vec<u8>> {
-        let filled = |len: usize| (0..len).map(|at| 1 + (at % 251) as u8).collect();
         let mut inputs: Vec<Vec<u8>> = (0..3 * SLOT).map(filled).collect();
         for slots in 1..=LARGEST / SLOT + 2 {
             inputs.extend([0, 1, SLOT - 1].map(|more| filled(SLOT * slots + more)));
@@ -48,65 +41,44 @@ impl Call for NewStore {
             _ => random.between(126, 131),
         };
         let more = random.below(SLOT) * usize::from(random.once_in(6));
-        let len = SLOT * slots + more;
-        match random.once_in(4) {
-            true => vec![random.byte(); len],
-            false => random.bytes(len),
-        }
+        records::random(random, SLOT * slots + more)
     }
 
-    fn expected(&self, store: &Vec<u8>) -> Expected {
-        let handed = store.clone();
+    fn rule(&self, store: &Vec<u8>, met: &mut Met) -> Ruling {
         if !stores::has_length(store.len()) {
-            let met = match store.len() {
-                0 => "refusal 2: no bytes",
-                len if len % SLOT != 0 => "refusal 2: no multiple of 512",
-                _ => "refusal 2: over 65,536 bytes",
-            };
-            return Expected::refused(2, handed, vec![met]);
+            met.all(length(store.len()));
+            return Err(2.into());
         }
-        let mut met = vec![match stores::read(store) {
-            Ok(_) => "store that is sound",
-            Err(_) => "store that is not",
-        }];
-        match store.len() {
-            SLOT => met.push("store of one slot"),
-            LARGEST => met.push("store of 65,536 bytes"),
-            _ => {}
-        }
-        if store[SLOT..].iter().any(|b| *b != 0) {
-            met.push("later slots that stay as they are");
-        }
-        Expected::accepted(Answer::accepted(0, 0), &[0; SLOT], handed, "new", met).by_01()
+        met.all(before(store));
+        let new = vec![vec![0; SLOT]];
+        Ok(Told::new(Answer::accepted(0, 0), "new", new).by_01())
     }
 
-    fn ours(&self, _store: &Vec<u8>, handed: &[u8]) -> Outcome {
-        let mut store = Lent::new(handed);
-        let answer = ours::new_store(store.bytes_mut());
-        let output = store.bytes().to_vec();
-        Outcome {
-            answer,
-            altered: altered(&[("bytes beside the store", &store, &output)]),
-            output,
-        }
+    fn lent<'a>(&self, store: &'a Vec<u8>) -> Vec<Part<'a>> {
+        vec![Part::written("the store", Form::Store, store)]
     }
 
     fn smaller(&self, store: &Vec<u8>) -> Vec<Vec<u8>> {
-        let mut all = shorter(store);
-        all.extend(store_shapes::smaller(store));
-        all
+        [shorter(store), store_shapes::smaller(store)].concat()
     }
+}
 
-    fn show(&self, store: &Vec<u8>, _handed: &[u8]) -> String {
-        format!("new_store {}", notation::store(store))
-    }
+rows! {
+    /// What there is before.
+    BEFORE: before(store: &[u8]) [
+        "store that is sound" => stores::read(store).is_ok(),
+        "store that is not" => stores::read(store).is_err(),
+        "store of one slot" => store.len() == SLOT,
+        "store of 65,536 bytes" => store.len() == LARGEST,
+        "later slots that stay as they are" => !zeros(&store[SLOT..]),
+    ]
+}
 
-    fn show_output(&self, output: &[u8]) -> String {
-        notation::store(output)
-    }
-
-    /// Nothing: the list holds the original's answers alone.
-    fn record(&self, _random: &mut Random, _cases: usize) -> Vec<String> {
-        vec![]
-    }
+rows! {
+    /// Why a length is refused.
+    LENGTH: length(len: usize) [
+        "refusal 2: over 65,536 bytes" => len % SLOT == 0 && len > LARGEST,
+        "refusal 2: no multiple of 512" => len % SLOT != 0,
+        "refusal 2: no bytes" => len == 0,
+    ]
 }

@@ -1,32 +1,23 @@
 //! The short lists: every list of up to four calls over a few of them.
 
 use super::{Act, Input, Sections, Step};
-use crate::calls::predict::one_leaf;
-use crate::cells::cell;
+use crate::calls::add_entry::Given;
 use crate::lexicon_edges::row;
 use crate::lexicons::Lexicon;
 use crate::sheets::{ITEM, LARGEST};
-use crate::spoken::Wanted;
+use crate::store_edges;
 use crate::stores::SLOT;
+use crate::tree_edges::one_leaf;
 use crate::trees::Trees;
-use crate::words;
+use crate::words::{self, Wanted};
 use std::rc::Rc;
 
 fn say(word: &str, tag: &str) -> Act {
-    Act::SayWord(Wanted {
-        word: word.into(),
-        tag: tag.into(),
-    })
+    Act::SayWord(Wanted::new(word, tag))
 }
 
 fn add(word: &str, tag: &str, phones: &str) -> Act {
-    let phones = phones.split_whitespace();
-    Act::AddEntry {
-        word: word.into(),
-        tag: tag.into(),
-        cells: phones.map(|phone| cell(phone.as_bytes())).collect(),
-        rest: vec![],
-    }
+    Act::AddEntry(Given::of(store_edges::add(word, tag, phones)))
 }
 
 fn text(text: &str) -> Act {

@@ -1,9 +1,12 @@
 //! Letter trees of many shapes, and ways to break them.
 
 use crate::random::Random;
-use crate::trees::{phone_table, Sections, Trees, INDEX, LONGEST_MODEL, NODE};
+use crate::shrink::{parts, shorter, without, Smaller};
+use crate::tables::{self, phone_table, put};
+use crate::trees::{Sections, Trees, INDEX, LONGEST_MODEL, NODE};
 use crate::words;
 use original::phoneset;
+use std::rc::Rc;
 
 /// A node: a question (feature, wanted byte, next on a match, next otherwise) or a leaf (255, phone number).
 #[derive(Clone, Copy)]
@@ -183,15 +186,8 @@ fn plan(random: &mut Random, shape: usize, most: usize) -> Plan {
 
 /// The names of a phone table.
 fn names(random: &mut Random) -> Vec<Vec<u8>> {
-    let count = match random.weighted(&[1, 2, 12, 8, 2]) {
-        0 => 0,
-        1 => 1,
-        2 => random.between(2, 12),
-        3 => random.between(13, 80),
-        _ => 256,
-    };
-    let mut names: Vec<Vec<u8>> = (0..count).map(|_| name(random)).collect();
-    if count > 1 && random.once_in(2) {
+    let mut names = tables::names(random, name);
+    if names.len() > 1 && random.once_in(2) {
         names[0] = b"epsilon".to_vec();
     }
     names
@@ -301,9 +297,7 @@ fn downhill(random: &mut Random, size: usize, alphabet: &[u8], phones: usize) ->
 /// The same nodes in another order.
 fn renumbered(random: &mut Random, nodes: Vec<Node>) -> Vec<Node> {
     let mut place: Vec<usize> = (0..nodes.len()).collect();
-    for i in (1..place.len()).rev() {
-        place.swap(i, random.between(0, i));
-    }
+    random.shuffle(&mut place);
     let moved = |link: u16| place.get(usize::from(link)).map_or(link, |p| *p as u16);
     let mut to = nodes.clone();
     for (node, p) in nodes.iter().zip(&place) {
@@ -361,19 +355,9 @@ fn grow(
 fn break_one(random: &mut Random, sections: &mut Sections, phones: usize) {
     let nodes = sections.model.len() / NODE;
     let node = NODE * random.below(nodes.max(1));
-    match random.below(12) {
-        0 => {
-            let len = random.below(sections.phones.len() + 1);
-            sections.phones.truncate(len);
-        }
-        1 => {
-            let count = random.between(phones + 1, 300) as u32;
-            put(&mut sections.phones, 0, &count.to_le_bytes());
-        }
-        2 => put(&mut sections.phones, 4, &[random.between(16, 255) as u8]),
-        3 => {
-            let at = random.below(sections.phones.len() + 1);
-            put(&mut sections.phones, at, &[128 + random.below(128) as u8]);
+    match random.below(8 + tables::BREAKS) {
+        way if way < tables::BREAKS => {
+            tables::break_form(random, &mut sections.phones, phones, way);
         }
         4 => sections.index.truncate(random.below(INDEX)),
         5 => {
@@ -412,9 +396,76 @@ fn break_one(random: &mut Random, sections: &mut Sections, phones: usize) {
     }
 }
 
-/// Writes bytes into a section, where it is long enough.
-fn put(section: &mut [u8], at: usize, bytes: &[u8]) {
-    if let Some(place) = section.get_mut(at..at + bytes.len()) {
-        place.copy_from_slice(bytes);
+/// Trees with nodes or phones left out, or plainer ones, for shrinking.
+pub fn smaller(trees: &Trees) -> Vec<Rc<Trees>> {
+    let sections = &trees.sections;
+    let mut smaller = Smaller::of(sections);
+    if sections.index.len() > INDEX {
+        let index = sections.index[..INDEX].to_vec();
+        smaller = smaller.with(vec![index], |s, index| s.index = index);
     }
+    let all = match &trees.names {
+        Some(names) => [smaller.all, fewer_nodes(trees, names)].concat(),
+        None => {
+            smaller
+                .with(shorter(&sections.phones), |s, phones| s.phones = phones)
+                .with(shorter(&sections.model), |s, model| s.model = model)
+                .all
+        }
+    };
+    let made = |sections: Sections| Rc::new(Trees::new(sections, vec![]));
+    all.into_iter().map(made).collect()
+}
+
+/// Nodes or phones left out, leaves in the place of questions, starts at the first node.
+fn fewer_nodes(trees: &Trees, names: &[Vec<u8>]) -> Vec<Sections> {
+    let sections = &trees.sections;
+    let mut all = vec![];
+    let nodes: Vec<Node> = sections.model.chunks(NODE).map(Node::of).collect();
+    let starts: [u16; 26] = std::array::from_fn(|i| trees.start(b'a' + i as u8) as u16);
+    let rewritten = |starts: &[u16; 26], nodes: &[Node], names: &[Vec<u8>]| Sections {
+        phones: phone_table(names),
+        index: index(starts),
+        model: model(nodes),
+    };
+    for part in parts(nodes.len()) {
+        let moved = |link: u16| match usize::from(link) {
+            at if at >= part.end => link - part.len() as u16,
+            at if at > part.start => part.start as u16,
+            _ => link,
+        };
+        let mut kept = without(&nodes, &part);
+        for node in &mut kept {
+            node.yes = moved(node.yes);
+            node.no = moved(node.no);
+        }
+        all.push(rewritten(&starts.map(moved), &kept, names));
+    }
+    for part in parts(names.len()) {
+        let mut nodes = nodes.clone();
+        for node in nodes.iter_mut().filter(|node| node.first == 255) {
+            match usize::from(node.second) {
+                number if number >= part.end => node.second -= part.len() as u8,
+                number if number >= part.start => node.second = 0,
+                _ => {}
+            }
+        }
+        all.push(rewritten(&starts, &nodes, &without(names, &part)));
+    }
+    if nodes.len() <= 64 {
+        for i in 0..nodes.len() {
+            let mut nodes = nodes.clone();
+            let plain = Node::leaf(nodes[i].second * u8::from(nodes[i].first == 255));
+            if model(&nodes[i..=i]) != model(&[plain]) {
+                nodes[i] = plain;
+                all.push(rewritten(&starts, &nodes, names));
+            }
+        }
+    }
+    for i in (0..26).filter(|i| starts[*i] != 0) {
+        let mut starts = starts;
+        starts[i] = 0;
+        all.push(rewritten(&starts, &nodes, names));
+    }
+    all
 }

@@ -1,0 +1,58 @@
+//! Rows of the table: what inputs met on their way.
+
+/// Rows of the table, each with what it counts. Makes a list of their names, and a function that tells which of
+/// them are met.
+macro_rules! rows {
+    ($(#[$about:meta])* $vis:vis $names:ident: $met:ident($($given:ident: $kind:ty),* $(,)?)
+     $({ $($before:tt)* })? [ $($name:literal => $is_met:expr),* $(,)? ]) => {
+        $vis const $names: &[&str] = &[$($name),*];
+
+        $(#[$about])*
+        $vis fn $met($($given: $kind),*) -> Vec<&'static str> {
+            $($($before)*)?
+            let rows = [$(($name, $is_met)),*];
+            rows.iter().filter(|row| row.1).map(|row| row.0).collect()
+        }
+    };
+}
+
+/// The rows that an input met.
+#[derive(Default)]
+pub struct Met {
+    rows: Vec<&'static str>,
+    /// Rows that count only in tables that have them.
+    shared: Vec<&'static str>,
+}
+
+impl Met {
+    pub fn row(&mut self, row: &'static str) {
+        self.rows.push(row);
+    }
+
+    pub fn add(&mut self, row: &'static str, is_met: bool) {
+        self.rows.extend(is_met.then_some(row));
+    }
+
+    pub fn all(&mut self, rows: impl IntoIterator<Item = &'static str>) {
+        self.rows.extend(rows);
+    }
+
+    /// The same, of which each row counts once.
+    pub fn once(&mut self, rows: impl IntoIterator<Item = &'static str>) {
+        for row in rows {
+            self.add(row, !self.rows.contains(&row));
+        }
+    }
+
+    /// Rows that several tables have some of.
+    pub fn shared(&mut self, rows: impl IntoIterator<Item = &'static str>) {
+        self.shared.extend(rows);
+    }
+
+    /// All of them, in a table of these rows.
+    pub fn counted(self, table: &[&[&str]]) -> Vec<&'static str> {
+        let known = |row: &&str| table.iter().any(|rows| rows.contains(row));
+        let shared = self.shared.into_iter().filter(known);
+        self.rows.into_iter().chain(shared).collect()
+    }
+}
