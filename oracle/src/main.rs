@@ -16,6 +16,7 @@ mod machines;
 mod notation;
 mod ours;
 mod phones;
+mod prelude;
 mod random;
 mod record;
 mod records;

@@ -4,26 +4,9 @@ mod rule;
 mod short;
 mod texts;
 
-use crate::call::{Call, Rows, Ruling, Told};
-use crate::lent::Part;
-use crate::lexicon_shapes;
-use crate::lexicons::Lexicon;
-use crate::lines;
-use crate::notation::Form;
-use crate::ours::{self, Answer, Function};
-use crate::phones::Phones;
-use crate::random::{Random, Served};
-use crate::record::{case, named, register};
-use crate::records;
-use crate::rows::Met;
-use crate::scene::Scene;
-use crate::shrink::Smaller;
-use crate::store_edges;
-use crate::store_shapes;
-use crate::stores::{self, LARGEST, SLOT, UNSOUND};
-use crate::words;
+use crate::prelude::*;
+use crate::stores::{LARGEST, UNSOUND};
 use rule::{beside_the_original, features, refusal, take, Fault};
-use std::rc::Rc;
 pub use texts::Texts;
 
 /// How many texts a lexicon and its store serve.

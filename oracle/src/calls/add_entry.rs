@@ -4,25 +4,9 @@
 mod rule;
 mod short;
 
-use crate::call::{Call, Rows, Ruling, Stop, Told};
-use crate::cells::{self, cell, is_over, List, CELL};
-use crate::lent::Part;
-use crate::lexicon_shapes;
-use crate::lexicons::Lexicon;
-use crate::notation::Form;
-use crate::ours::{self, Answer, Function};
-use crate::phones::Phones;
-use crate::random::{Random, Served};
-use crate::record::{case, named, register};
-use crate::rows::Met;
-use crate::scene::{key, Add, Scene};
-use crate::shrink::Smaller;
-use crate::store_edges;
-use crate::store_shapes;
-use crate::stores::{self, Entry, LARGEST, MOST_PHONES, SLOT, UNSOUND};
-use crate::words::{self, Wanted};
+use crate::prelude::*;
+use crate::stores::{LARGEST, UNSOUND};
 use rule::{added, refusal, refused_by_the_original};
-use std::rc::Rc;
 
 /// How many adds a lexicon and its store serve.
 const ADDS: usize = 60;

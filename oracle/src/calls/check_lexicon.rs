@@ -1,16 +1,8 @@
 //! check_lexicon: whether the entries of a lexicon are whole and their words do not fall. The original has
 //! no such call; the driver's own test, written from 01, says what is expected.
 
-use crate::call::{Call, Rows, Ruling, Told};
-use crate::lent::Part;
-use crate::lexicon_edges;
-use crate::lexicon_shapes;
-use crate::lexicons::{Compiled, Lexicon, DAMAGE};
-use crate::ours::{self, Answer, Function};
-use crate::phones::Phones;
-use crate::random::Random;
-use crate::rows::Met;
-use std::rc::Rc;
+use crate::lexicons::{Compiled, DAMAGE};
+use crate::prelude::*;
 
 #[derive(Default)]
 pub struct CheckLexicon {

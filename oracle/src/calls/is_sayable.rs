@@ -1,16 +1,7 @@
 //! is_sayable: whether two machines accept the letters of a word.
 
-use crate::call::{ask, Call, Rows, Ruling, Told};
-use crate::lent::Part;
 use crate::machines::{self, cell, section, step, walk, Machines, Step, Walk};
-use crate::ours::{self, Answer, Function};
-use crate::random::{Random, Served};
-use crate::record::{named, registers, whole_case};
-use crate::rows::Met;
-use crate::scene::ascii;
-use crate::shrink::{shorter, Smaller};
-use crate::words;
-use std::rc::Rc;
+use crate::prelude::*;
 
 /// How many words a pair of machines serves.
 const WORDS: usize = 40;

@@ -1,16 +1,6 @@
 //! is_vowel: whether a phone is a vowel. Not one of the eleven calls, but theirs rest on it.
 
-use crate::call::{ask, Call, Rows, Ruling, Told};
-use crate::lent::Part;
-use crate::notation::Form;
-use crate::ours::{self, Answer, Function};
-use crate::phones::Phones;
-use crate::random::Random;
-use crate::record;
-use crate::rows::Met;
-use crate::scene::ascii;
-use crate::shrink::shorter;
-use original::phoneset;
+use crate::prelude::*;
 
 #[derive(Default)]
 pub struct IsVowel {

@@ -9,22 +9,12 @@ mod run;
 mod short;
 mod smaller;
 
-use crate::call::{Call, Outcome, Rows, Ruling, Told};
 use crate::calls::{add_entries, add_entry, new_sheet, say_word};
-use crate::lent::{Part, Room};
-use crate::lexicons::Lexicon;
-use crate::notation::{self, Form};
-use crate::ours::{Answer, Function};
-use crate::random::Random;
-use crate::rows::Met;
-use crate::sheets::{ITEM, LARGEST};
-use crate::stores::{self, SLOT};
-use crate::trees::Trees;
-use crate::words::Wanted;
+use crate::prelude::*;
+use crate::sheets::LARGEST;
 use book::Book;
 use made::Maker;
 use run::{Beside, Library};
-use std::rc::Rc;
 
 /// A call of a list.
 #[derive(Clone)]

@@ -4,25 +4,10 @@
 mod rule;
 mod short;
 
-use crate::call::{ask, Call, Rows, Ruling, Stop, Told, OUTPUT_OR_NONE};
-use crate::cells::{cells, CELL};
-use crate::lent::{Part, Room};
-use crate::lexicon_shapes;
-use crate::lexicons::{Lexicon, DAMAGE};
-use crate::notation::Form;
-use crate::ours::{self, Answer, Function};
-use crate::phones::Phones;
-use crate::random::{Random, Served};
-use crate::record::{named, register, registers, whole_case};
-use crate::rows::Met;
-use crate::scene::{ascii, ways, Add, Scene};
-use crate::shrink::Smaller;
-use crate::store_edges;
-use crate::store_shapes;
-use crate::stores::{self, UNSOUND};
-use crate::words::{self, Wanted};
+use crate::lexicons::DAMAGE;
+use crate::prelude::*;
+use crate::stores::UNSOUND;
 pub use rule::{rule, Found, Source};
-use std::rc::Rc;
 
 /// How many words a lexicon with a store serves.
 const WORDS: usize = 40;

@@ -1,16 +1,8 @@
 //! new_sheet: the first item of a sheet, written whole. The original has no such call; 01 says what is expected.
 
-use crate::call::{Call, Rows, Ruling, Told};
-use crate::lent::Part;
-use crate::notation::Form;
-use crate::ours::{self, Answer, Function};
-use crate::random::Random;
-use crate::records::{self, filled, zeros};
-use crate::rows::Met;
-use crate::sheet_edges;
-use crate::sheet_shapes;
-use crate::sheets::{self, ITEM, LARGEST};
-use crate::shrink::shorter;
+use crate::prelude::*;
+use crate::records::filled;
+use crate::sheets::LARGEST;
 
 #[derive(Default)]
 pub struct NewSheet;

@@ -1,17 +1,9 @@
 //! new_store: the first record of a store, written whole. The original has no such call; 01 says what is
 //! expected.
 
-use crate::call::{Call, Rows, Ruling, Told};
-use crate::lent::Part;
-use crate::notation::Form;
-use crate::ours::{self, Answer, Function};
-use crate::random::Random;
-use crate::records::{self, filled, zeros};
-use crate::rows::Met;
-use crate::shrink::shorter;
-use crate::store_edges;
-use crate::store_shapes;
-use crate::stores::{self, LARGEST, SLOT};
+use crate::prelude::*;
+use crate::records::filled;
+use crate::stores::LARGEST;
 
 #[derive(Default)]
 pub struct NewStore;

@@ -1,20 +1,8 @@
 //! phone_string: the phones of a sheet in a row, one blank between. The original joins the segments of an
 //! utterance; it is given those that the driver's own reader finds in a sheet.
 
-use crate::call::{Call, Rows, Ruling, Stop, Told, OUTPUT_OR_NONE, TOO_SHORT};
-use crate::cells;
-use crate::lent::{Part, Room, Size};
-use crate::notation::Form;
-use crate::ours::{self, Answer, Function};
-use crate::phones::Phones;
-use crate::random::Random;
-use crate::record;
-use crate::rows::Met;
-use crate::sheet_edges;
-use crate::sheet_shapes;
-use crate::sheets::{self, Placed, ITEM, LARGEST, UNSOUND};
-use crate::shrink::Smaller;
-use crate::spoken;
+use crate::prelude::*;
+use crate::sheets::{Placed, LARGEST, UNSOUND};
 
 #[derive(Clone)]
 pub struct Input {

@@ -1,20 +1,7 @@
 //! predict: the phones of a word by the letter trees.
 
-use crate::call::{ask, Call, Rows, Ruling, Told, OUTPUT};
-use crate::cells::{self, cells};
-use crate::lent::{Part, Room, Size};
-use crate::notation::Form;
-use crate::ours::{self, Answer, Function};
-use crate::random::{Random, Served};
-use crate::record::{named, registers, whole_case};
-use crate::rows::Met;
-use crate::scene::ascii;
-use crate::shrink::{shorter, Smaller};
-use crate::tree_edges;
-use crate::tree_shapes;
-use crate::trees::{Trees, Walk};
-use crate::words;
-use std::rc::Rc;
+use crate::prelude::*;
+use crate::trees::Walk;
 
 /// How many words a set of trees serves.
 const WORDS: usize = 40;

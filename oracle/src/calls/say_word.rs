@@ -4,30 +4,10 @@
 mod rule;
 mod short;
 
-use crate::call::{Call, Rows, Ruling, Stop, Told};
 use crate::calls::{lookup, phone_string};
-use crate::cells;
-use crate::lent::{Part, Room};
-use crate::lexicon_shapes;
-use crate::notation::Form;
-use crate::ours::{self, Answer, Function};
-use crate::phones::Phones;
-use crate::random::{Random, Served};
-use crate::record::{case, named, register, registers, whole_case};
-use crate::rows::Met;
-use crate::scene::Scene;
-use crate::sheet_edges;
-use crate::sheet_shapes;
-use crate::sheets::{self, ITEM};
-use crate::shrink::Smaller;
-use crate::spoken::{self, Word};
-use crate::store_shapes;
-use crate::stores;
-use crate::tree_shapes;
-use crate::trees::Trees;
-use crate::words::{self, Wanted};
+use crate::prelude::*;
+use crate::spoken::Word;
 use rule::{origin, Origin};
-use std::rc::Rc;
 
 /// How many words a lexicon, its store and its trees serve.
 const WORDS: usize = 40;

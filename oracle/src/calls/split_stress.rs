@@ -1,16 +1,6 @@
 //! split_stress: a phone's stress and its bare phone. Not one of the eleven calls, but theirs rest on it.
 
-use crate::call::{ask, Call, Rows, Ruling, Told};
-use crate::lent::Part;
-use crate::notation::Form;
-use crate::ours::{self, Answer, Function};
-use crate::phones::Phones;
-use crate::random::Random;
-use crate::record;
-use crate::rows::Met;
-use crate::scene::ascii;
-use crate::shrink::shorter;
-use original::lexicon;
+use crate::prelude::*;
 
 #[derive(Default)]
 pub struct SplitStress {

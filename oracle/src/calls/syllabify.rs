@@ -1,17 +1,6 @@
 //! syllabify: the marks after the phones of a list.
 
-use crate::call::{ask, Call, Rows, Ruling, Stop, Told, OUTPUT};
-use crate::cells::{self, cell, is_high, is_over, text, Cell, List, CELL};
-use crate::lent::{Part, Room, Size};
-use crate::notation::Form;
-use crate::ours::{self, Answer, Function};
-use crate::phones::Phones;
-use crate::random::Random;
-use crate::record;
-use crate::rows::Met;
-use crate::scene::ascii;
-use crate::shrink::Smaller;
-use original::{lexicon, phoneset};
+use crate::prelude::*;
 
 /// The longest list that 01 accepts.
 const LONGEST: usize = 96;

@@ -1,14 +1,8 @@
 //! What 01 and the original make of a text.
 
 use super::Input;
-use crate::call::ask;
-use crate::lexicons::Lexicon;
-use crate::lines::{self, Fields, Line};
-use crate::rows::Met;
-use crate::scene::{ascii, key, Key};
-use crate::stores::{self, MOST_PHONES};
-use crate::words;
-use original::lexicon::LexiconError;
+use crate::lines::{Fields, Line};
+use crate::prelude::*;
 
 /// The refusal that 01 gives before a line is looked at, if it gives one. Tells what made it.
 pub fn refusal(input: &Input, met: &mut Met) -> Result<(), u32> {

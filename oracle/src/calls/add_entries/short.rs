@@ -1,13 +1,7 @@
 //! The short inputs of add_entries.
 
 use super::Input;
-use crate::lexicon_edges;
-use crate::lexicons::Lexicon;
-use crate::scene::Scene;
-use crate::store_edges;
-use crate::stores;
-use crate::words;
-use std::rc::Rc;
+use crate::prelude::*;
 
 pub fn inputs() -> Vec<Input> {
     let mut inputs = edges();

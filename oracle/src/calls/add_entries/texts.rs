@@ -1,11 +1,6 @@
 //! Texts of entries.
 
-use crate::phones::Phones;
-use crate::random::Random;
-use crate::scene::Scene;
-use crate::store_shapes;
-use crate::stores;
-use crate::words;
+use crate::prelude::*;
 
 /// Lines that are no entries; a text stops there.
 const FAULTY: [&[u8]; 10] = [

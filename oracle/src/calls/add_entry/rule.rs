@@ -1,15 +1,8 @@
 //! What 01 and the original make of an add.
 
 use super::{Given, Input};
-use crate::call::ask;
-use crate::cells::{is_high, is_over, text, Cell, List};
-use crate::lexicons::{is_of_the_50, Lexicon};
-use crate::records::zeros;
-use crate::rows::Met;
-use crate::scene::{ascii, key, ways, Scene};
-use crate::stores::{self, Entry, MOST_PHONES, SLOT};
-use crate::words;
-use original::lexicon::LexiconError;
+use crate::lexicons::is_of_the_50;
+use crate::prelude::*;
 
 /// The refusal that 01 gives, if it gives one. Tells what made it.
 pub fn refusal(input: &Input, met: &mut Met) -> Result<(), u32> {

@@ -1,15 +1,7 @@
 //! The short inputs of add_entry.
 
 use super::{Given, Input};
-use crate::cells::{cell, List};
-use crate::lexicon_edges;
-use crate::lexicons::Lexicon;
-use crate::phones::Phones;
-use crate::scene::Scene;
-use crate::store_edges;
-use crate::stores;
-use crate::words::{self, Wanted};
-use std::rc::Rc;
+use crate::prelude::*;
 
 pub fn inputs(phones: &Phones) -> Vec<Input> {
     let mut inputs = edges();

@@ -1,17 +1,12 @@
 //! The book beside a list of calls: the original with its own entries, and the words of the sheet.
 
 use super::{Act, Sections};
-use crate::call::ask;
 use crate::calls::add_entry::Given;
-use crate::cells::text;
-use crate::rows::Met;
-use crate::scene::{ascii, entry};
-use crate::spoken::{self, Word};
-use crate::stores::{self, Entry};
-use crate::words::Wanted;
-use original::lexicon::{self, probe, LexiconError};
+use crate::prelude::*;
+use crate::scene::entry;
+use crate::spoken::Word;
+use original::lexicon::probe;
 use std::mem::take;
-use std::rc::Rc;
 
 pub struct Book {
     sections: Rc<Sections>,

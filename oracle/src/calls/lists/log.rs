@@ -1,8 +1,7 @@
 //! What a list of calls gives back, one call behind the other, as bytes that are compared.
 
 use super::run::State;
-use crate::notation;
-use crate::ours::Answer;
+use crate::prelude::*;
 use crate::sheets::Reading;
 use crate::spoken::Word;
 

@@ -2,19 +2,8 @@
 
 use super::{Act, Input, Sections, Step};
 use crate::calls::{add_entries, add_entry};
-use crate::lexicon_shapes;
-use crate::lexicons::Lexicon;
-use crate::phones::Phones;
-use crate::random::{Random, Served};
-use crate::scene::Scene;
-use crate::sheet_shapes;
+use crate::prelude::*;
 use crate::sheets::LARGEST;
-use crate::store_shapes;
-use crate::stores::{self, SLOT};
-use crate::tree_shapes;
-use crate::trees::Trees;
-use crate::words::{self, Wanted};
-use std::rc::Rc;
 
 /// How many lists a set of sections serves.
 const LISTS: usize = 8;

@@ -3,15 +3,9 @@
 use super::book::Book;
 use super::log::Log;
 use super::{Act, Input, Lists, Step};
-use crate::call::{handed, Call, Outcome};
 use crate::calls::{add_entries, add_entry, new_store, phone_string, say_word};
-use crate::lent::Room;
-use crate::lexicons::Lexicon;
-use crate::ours::Answer;
-use crate::rows::Met;
-use crate::scene::Scene;
-use crate::sheets::{self, Reading};
-use std::rc::Rc;
+use crate::prelude::*;
+use crate::sheets::Reading;
 
 /// More bytes than the phones of any sheet have, in a row.
 const PHONES: usize = 20_000;

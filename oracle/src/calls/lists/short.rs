@@ -3,14 +3,9 @@
 use super::{Act, Input, Sections, Step};
 use crate::calls::add_entry::Given;
 use crate::lexicon_edges::row;
-use crate::lexicons::Lexicon;
-use crate::sheets::{ITEM, LARGEST};
-use crate::store_edges;
-use crate::stores::SLOT;
+use crate::prelude::*;
+use crate::sheets::LARGEST;
 use crate::tree_edges::one_leaf;
-use crate::trees::Trees;
-use crate::words::{self, Wanted};
-use std::rc::Rc;
 
 fn say(word: &str, tag: &str) -> Act {
     Act::SayWord(Wanted::new(word, tag))

@@ -1,13 +1,7 @@
 //! Lists with something left out.
 
 use super::{Act, Input, Sections, Step};
-use crate::lexicon_shapes;
-use crate::lines;
-use crate::records;
-use crate::sheets::ITEM;
-use crate::shrink::{shorter, Smaller};
-use crate::stores::SLOT;
-use crate::tree_shapes;
+use crate::prelude::*;
 
 /// Lists of fewer calls, on less, or of plainer calls.
 pub fn inputs(input: &Input) -> Vec<Input> {

@@ -2,11 +2,8 @@
 //! too; it does not tell the source.
 
 use super::LONGEST;
-use crate::lexicons::{Lexicon, Search};
-use crate::rows::Met;
-use crate::scene::Scene;
-use crate::stores::{Entry, MOST_PHONES};
-use crate::words::Wanted;
+use crate::lexicons::Search;
+use crate::prelude::*;
 use original::lexicon::probe;
 
 /// Where an answer is from; its number is the answer's kind.

@@ -1,15 +1,9 @@
 //! The short inputs of lookup, and those that are always recorded.
 
 use super::Input;
-use crate::lent::{Room, Size};
-use crate::lexicon_edges::{self, row};
-use crate::lexicon_shapes;
-use crate::lexicons::{Lexicon, Row};
-use crate::scene::{Add, Scene};
-use crate::store_edges;
-use crate::stores;
-use crate::words::{self, Wanted};
-use std::rc::Rc;
+use crate::lexicon_edges::row;
+use crate::lexicons::Row;
+use crate::prelude::*;
 
 pub fn inputs() -> Vec<Input> {
     let mut inputs = edges();

@@ -1,17 +1,12 @@
 //! What 01 says of a word: its refusal, or where its phones come from.
 
 use super::Input;
-use crate::call::ask;
 use crate::calls::lookup::{self, Source};
 use crate::calls::predict;
 use crate::lexicons::Compiled;
-use crate::records::zeros;
-use crate::rows::Met;
-use crate::scene::ascii;
-use crate::sheets::{self, Placed, ITEM};
+use crate::prelude::*;
+use crate::sheets::Placed;
 use crate::spoken::Word;
-use crate::words;
-use original::{lexicon, phoneset};
 
 /// Where the phones of a word come from, and the phones with their digits.
 pub struct Origin {

@@ -1,18 +1,11 @@
 //! The short inputs of say_word.
 
 use super::Input;
-use crate::lexicon_edges::{self, row};
-use crate::lexicon_shapes;
-use crate::lexicons::{Lexicon, Row};
-use crate::scene::Scene;
-use crate::sheet_edges::{self, in_order};
-use crate::sheets::ITEM;
-use crate::store_edges;
-use crate::stores;
-use crate::tree_edges::{self, one_leaf};
-use crate::trees::Trees;
-use crate::words::{self, Wanted};
-use std::rc::Rc;
+use crate::lexicon_edges::row;
+use crate::lexicons::Row;
+use crate::prelude::*;
+use crate::sheet_edges::in_order;
+use crate::tree_edges::one_leaf;
 
 pub fn inputs() -> Vec<Input> {
     let mut inputs = sheets();
