@@ -95,9 +95,7 @@ rows! {
         "phone of 0 bytes" => phones.iter().any(|phone| phone.as_ref().is_empty()),
         "phone of 15 bytes" => phones.iter().any(|phone| phone.as_ref().len() == 15),
     ]
-}
 
-rows! {
     /// What a list has that nobody reads.
     pub UNREAD: unread(list: &List) [
         "bytes past a text" => list.cells.iter().any(|given| cell(text(given)) != *given),

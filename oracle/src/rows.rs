@@ -3,8 +3,8 @@
 /// Rows of the table, each with what it counts. Makes a list of their names, and a function that tells which of
 /// them are met.
 macro_rules! rows {
-    ($(#[$about:meta])* $vis:vis $names:ident: $met:ident($($given:ident: $kind:ty),* $(,)?)
-     $({ $($before:tt)* })? [ $($name:literal => $is_met:expr),* $(,)? ]) => {
+    ($($(#[$about:meta])* $vis:vis $names:ident: $met:ident($($given:ident: $kind:ty),* $(,)?)
+     $({ $($before:tt)* })? [ $($name:literal => $is_met:expr),* $(,)? ])*) => {$(
         $vis const $names: &[&str] = &[$($name),*];
 
         $(#[$about])*
@@ -13,7 +13,7 @@ macro_rules! rows {
             let rows = [$(($name, $is_met)),*];
             rows.iter().filter(|row| row.1).map(|row| row.0).collect()
         }
-    };
+    )*};
 }
 
 /// The rows that an input met.

@@ -1,6 +1,6 @@
 //! The sheet: 01's layout, read and written by the driver itself.
 
-use crate::records::{number, put, zeros};
+use crate::records::{ensure, number, put, zeros};
 use crate::spoken::{Syllable, Word};
 use crate::words;
 
@@ -71,17 +71,14 @@ pub fn has_length(len: usize) -> bool {
 
 /// The words of a sound sheet; of any other sheet, what is amiss.
 pub fn read(sheet: &[u8]) -> Result<Vec<Placed>, &'static str> {
-    if !has_length(sheet.len()) {
-        return Err("sheet: wrong length");
-    }
+    ensure(has_length(sheet.len()), "sheet: wrong length")?;
     let items: Vec<&[u8]> = sheet.chunks_exact(ITEM).collect();
     let used = number(&items[0][USED..]);
-    if !zeros(&items[0][..FIRST]) || !zeros(&items[0][LINKS_END..]) {
-        return Err("sheet: bytes beside item 0's fields");
-    }
-    if used >= items.len() {
-        return Err("sheet: more used than there are items");
-    }
+    ensure(
+        zeros(&items[0][..FIRST]) && zeros(&items[0][LINKS_END..]),
+        "sheet: bytes beside item 0's fields",
+    )?;
+    ensure(used < items.len(), "sheet: more used than there are items")?;
     let mut tree = Tree {
         seen: vec![false; used + 1],
         items,
@@ -93,9 +90,7 @@ pub fn read(sheet: &[u8]) -> Result<Vec<Placed>, &'static str> {
         let mut syllables = vec![];
         for at in tree.children(at, SYLLABLE)? {
             let below = tree.children(at, PHONE)?;
-            if below.is_empty() {
-                return Err("sheet: syllable without a phone");
-            }
+            ensure(!below.is_empty(), "sheet: syllable without a phone")?;
             let texts: Result<_, _> = below.iter().map(|at| read_phone(tree.items[*at])).collect();
             syllables.push(Syllable {
                 stress: read_syllable(tree.items[at])?,
@@ -109,18 +104,21 @@ pub fn read(sheet: &[u8]) -> Result<Vec<Placed>, &'static str> {
         let word = Word { text, syllables };
         words.push(Placed { word, items });
     }
-    if tree.seen[1..].contains(&false) {
-        return Err("sheet: used item that no link reaches");
-    }
+    ensure(
+        !tree.seen[1..].contains(&false),
+        "sheet: used item that no link reaches",
+    )?;
     // item 0 stands before the first phone and behind the last
     let ring: Vec<usize> = [&[0], &phones[..], &[0]].concat();
     for pair in ring.windows(2) {
-        if number(&tree.items[pair[0]][BEHIND..]) != pair[1] {
-            return Err("sheet: phones forwards in another order");
-        }
-        if number(&tree.items[pair[1]][BEFORE..]) != pair[0] {
-            return Err("sheet: phones backwards in another order");
-        }
+        ensure(
+            number(&tree.items[pair[0]][BEHIND..]) == pair[1],
+            "sheet: phones forwards in another order",
+        )?;
+        ensure(
+            number(&tree.items[pair[1]][BEFORE..]) == pair[0],
+            "sheet: phones backwards in another order",
+        )?;
     }
     Ok(words)
 }
@@ -143,15 +141,12 @@ impl Tree<'_> {
                 Some(seen) => *seen = true,
             }
             let item = self.items[at];
-            if item[0] != kind {
-                return Err("sheet: wrong kind");
-            }
-            if number(&item[PARENT..]) != parent {
-                return Err("sheet: wrong parent");
-            }
-            if !zeros(&item[LINKS_END..LEN]) {
-                return Err("sheet: bytes 14 and 15 of an item");
-            }
+            ensure(item[0] == kind, "sheet: wrong kind")?;
+            ensure(number(&item[PARENT..]) == parent, "sheet: wrong parent")?;
+            ensure(
+                zeros(&item[LINKS_END..LEN]),
+                "sheet: bytes 14 and 15 of an item",
+            )?;
             children.push(at);
             at = number(&item[NEXT..]);
         }
@@ -169,17 +164,13 @@ fn read_word(item: &[u8]) -> Result<Vec<u8>, &'static str> {
 }
 
 fn has_no_phone_links(item: &[u8]) -> Result<(), &'static str> {
-    match zeros(&item[BEFORE..LINKS_END]) {
-        true => Ok(()),
-        false => Err("sheet: phone links of a word or a syllable"),
-    }
+    let links = &item[BEFORE..LINKS_END];
+    ensure(zeros(links), "sheet: phone links of a word or a syllable")
 }
 
 fn read_syllable(item: &[u8]) -> Result<u8, &'static str> {
     has_no_phone_links(item)?;
-    if !zeros(&item[LEN..]) {
-        return Err("sheet: syllable with a text");
-    }
+    ensure(zeros(&item[LEN..]), "sheet: syllable with a text")?;
     match item[STRESS] {
         stress @ (b'0' | b'1') => Ok(stress),
         _ => Err("sheet: stress that is neither 48 nor 49"),
@@ -187,27 +178,19 @@ fn read_syllable(item: &[u8]) -> Result<u8, &'static str> {
 }
 
 fn read_phone(item: &[u8]) -> Result<Vec<u8>, &'static str> {
-    if !zeros(&item[FIRST..PARENT]) {
-        return Err("sheet: child of a phone");
-    }
+    ensure(zeros(&item[FIRST..PARENT]), "sheet: child of a phone")?;
     read_text(item, LONGEST_PHONE, "sheet: phone over 15 bytes")
 }
 
 /// The text of a word or a phone, or what is amiss with it.
 fn read_text(item: &[u8], longest: usize, too_long: &'static str) -> Result<Vec<u8>, &'static str> {
     let len = usize::from(item[LEN]);
-    if item[STRESS] != 0 {
-        return Err("sheet: stress of a word or a phone");
-    }
-    if len > longest {
-        return Err(too_long);
-    }
+    ensure(item[STRESS] == 0, "sheet: stress of a word or a phone")?;
+    ensure(len <= longest, too_long)?;
     let (text, past) = item[TEXT..].split_at(len);
-    match (text.is_ascii(), zeros(past)) {
-        (false, _) => Err("sheet: text with a high byte"),
-        (_, false) => Err("sheet: bytes past a text"),
-        _ => Ok(text.to_vec()),
-    }
+    ensure(text.is_ascii(), "sheet: text with a high byte")?;
+    ensure(zeros(past), "sheet: bytes past a text")?;
+    Ok(text.to_vec())
 }
 
 /// An item before it is written.

@@ -70,9 +70,7 @@ rows! {
         "word of 47 bytes" => word.len() == LONGEST,
         "capital letter" => word.to_ascii_lowercase() != word,
     ]
-}
 
-rows! {
     /// What a tag has.
     pub TAG: of_tag(tag: &[u8]) [
         "tag empty" => tag.is_empty(),

@@ -4,9 +4,11 @@ mod rule;
 mod short;
 mod texts;
 
+use super::adding::{self, Pool};
 use crate::prelude::*;
-use crate::stores::{LARGEST, UNSOUND};
-use rule::{beside_the_original, features, refusal, take, Fault};
+use crate::stores::UNSOUND;
+use rule::{beside_the_original, features, refusal, taken, Fault};
+use std::mem::take;
 pub use texts::Texts;
 
 /// How many texts a lexicon and its store serve.
@@ -22,8 +24,7 @@ pub struct Input {
 #[derive(Default)]
 pub struct AddEntries {
     phones: Phones,
-    /// The store as the texts before have left it, and words to add.
-    scene: Served<(Rc<Scene>, Vec<Vec<u8>>)>,
+    pool: Served<Pool>,
 }
 
 impl Call for AddEntries {
@@ -61,10 +62,9 @@ impl Call for AddEntries {
     }
 
     fn random(&mut self, random: &mut Random) -> Input {
-        let (scene, words) = self.scene.next(|| begin(random, &self.phones));
-        let scene = scene.clone();
+        let Pool { scene, words } = self.pool.next(|| begin(random, &self.phones));
         let texts = Texts {
-            scene: &scene,
+            scene,
             words,
             phones: &self.phones,
         };
@@ -73,28 +73,17 @@ impl Call for AddEntries {
             spare: random.bytes(scene.store.len()),
             scene: scene.clone(),
         };
-        if let Ok(mut outcome) = self.expected(&input).outcome {
-            match outcome.answer.refusal {
-                0 => self.scene.now().0 = scene.with_store(outcome.written.remove(0)),
-                // not for long on a full store
-                8 => self.scene.serve_at_most(2),
-                _ => {}
-            }
-        }
+        let mut pool = take(&mut self.pool);
+        adding::go_on(self, &input, &mut pool, 2);
+        self.pool = pool;
+        let store = &input.scene.store;
         match random.below(24) {
-            0 | 1 => {
-                let store = store_shapes::damaged(random, &scene.store);
-                input.scene = scene.with_store(store);
-            }
-            2 => {
-                let table = lexicon_shapes::broken_table(random, &scene.lexicon);
-                input.scene = scene.with_lexicon(&table);
-            }
+            way @ 0..=2 => input.scene = adding::damaged(random, &input.scene, way),
             3 => {
-                let lengths = [0, SLOT, scene.store.len() - 1, scene.store.len() + SLOT];
+                let lengths = [0, SLOT, store.len() - 1, store.len() + SLOT];
                 input.spare.resize(lengths[random.below(4)], 0);
             }
-            4..=9 => input.spare = scene.store.clone(),
+            4..=9 => input.spare = store.clone(),
             _ => {}
         }
         input
@@ -102,7 +91,7 @@ impl Call for AddEntries {
 
     fn rule(&self, input: &Input, met: &mut Met) -> Ruling {
         refusal(input, met)?;
-        let taken = take(input, met);
+        let taken = taken(input, met);
         let after = beside_the_original(input, &taken)?;
         features(input, &taken, met);
         let scene = &input.scene;
@@ -154,29 +143,10 @@ impl Call for AddEntries {
             let lexicon = Rc::new(Lexicon::of(&names, &[]));
             let slots = [2, 3, 4, 5, 6, 9][set % 6];
             let store = stores::new(slots, random.byte());
-            let mut scene = Rc::new(Scene::new(&lexicon, store));
             lines.push(format!("# lines of text {} of {sets}", set + 1));
-            lines.push(register(0, Form::PhoneTable, &lexicon.sections.phones));
-            lines.push(register(1, Form::Store, &scene.store));
-            let mut at = 1;
-            for _ in 0..cases.div_ceil(sets) {
-                let input = self.to_record(random, &scene);
-                let (case, expected) = case(self, &input, &named([0, at]));
-                let outcome = expected.outcome.expect("the original answers");
-                let [store, spare] = &outcome.written[..] else {
-                    panic!("a store and a spare are written");
-                };
-                if outcome.answer.refusal != 0 || *store == scene.store {
-                    let spare = Form::Store.shown(spare);
-                    lines.push(format!("{case} = {spare}"));
-                    continue;
-                }
-                // the store at exit is the next case's store
-                at = 3 - at;
-                lines.push(register(at, Form::Store, store));
-                lines.push(format!("{case} ${at} ${at}"));
-                scene = scene.with_store(store.clone());
-            }
+            let made = |scene: &Rc<Scene>| self.to_record(random, scene);
+            let scene = Rc::new(Scene::new(&lexicon, store));
+            lines.extend(adding::record(self, scene, cases.div_ceil(sets), made));
         }
         lines
     }
@@ -200,7 +170,7 @@ impl AddEntries {
             if input.text.len() >= 200 || refusal(&input, &mut Met::default()).is_err() {
                 continue;
             }
-            let taken = take(&input, &mut Met::default());
+            let taken = taken(&input, &mut Met::default());
             let is_wanted = match taken.fault {
                 None if taken.keys.is_empty() => wanted == 2,
                 None => wanted == 0,
@@ -214,21 +184,11 @@ impl AddEntries {
 }
 
 /// A phone table with a store, new or grown before, and words to add; and how many texts they serve.
-fn begin(random: &mut Random, phones: &Phones) -> ((Rc<Scene>, Vec<Vec<u8>>), usize) {
-    let lexicon = Rc::new(lexicon_shapes::of_phones(random, phones));
-    let empty = Scene::new(&lexicon, stores::new(1, 0));
-    let count = random.between(1, 12);
-    let mut words: Vec<Vec<u8>> = (0..count)
-        .map(|_| words::accepted(random, b"abcdAB'\"-_0"))
-        .collect();
-    let store = match random.weighted(&[40, 1]) {
-        0 => store_shapes::random(random, &empty, &words, phones),
-        _ => {
-            // nearly full
-            words.extend((0..200).map(|i| format!("w{i}").into()));
-            let slots = LARGEST / SLOT;
-            store_shapes::of_size(random, &empty, &words, phones, slots, 180)
-        }
+fn begin(random: &mut Random, phones: &Phones) -> (Pool, usize) {
+    let pool = Pool::new(random, phones, Some(b"abcdAB'\"-_0"));
+    let pool = match random.weighted(&[40, 1]) {
+        0 => pool.grown(random, phones),
+        _ => pool.nearly_full(random, phones, 180),
     };
-    ((empty.with_store(store), words), TEXTS)
+    (pool, TEXTS)
 }

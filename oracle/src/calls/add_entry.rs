@@ -4,9 +4,11 @@
 mod rule;
 mod short;
 
+use super::adding::{self, Pool};
 use crate::prelude::*;
 use crate::stores::{LARGEST, UNSOUND};
 use rule::{added, refusal, refused_by_the_original};
+use std::mem::take;
 
 /// How many adds a lexicon and its store serve.
 const ADDS: usize = 60;
@@ -50,8 +52,7 @@ pub struct Input {
 #[derive(Default)]
 pub struct AddEntry {
     phones: Phones,
-    /// The store as the adds before have left it, and words to add.
-    scene: Served<(Rc<Scene>, Vec<Vec<u8>>)>,
+    pool: Served<Pool>,
 }
 
 impl Call for AddEntry {
@@ -86,26 +87,17 @@ impl Call for AddEntry {
     }
 
     fn random(&mut self, random: &mut Random) -> Input {
-        let (scene, words) = self.scene.next(|| begin(random, &self.phones));
-        let scene = scene.clone();
+        let Pool { scene, words } = self.pool.next(|| begin(random, &self.phones));
         let mut input = Input {
-            given: given(random, &scene, words, &self.phones),
+            given: given(random, scene, words, &self.phones),
             scene: scene.clone(),
         };
         spoil(random, &mut input.given, &self.phones);
-        if let Ok(mut outcome) = self.expected(&input).outcome {
-            match outcome.answer.refusal {
-                0 => self.scene.now().0 = scene.with_store(outcome.written.remove(0)),
-                // not for long on a full store
-                8 => self.scene.serve_at_most(4),
-                _ => {}
-            }
-        }
-        input.scene = match random.below(24) {
-            0 | 1 => scene.with_store(store_shapes::damaged(random, &scene.store)),
-            2 => scene.with_lexicon(&lexicon_shapes::broken_table(random, &scene.lexicon)),
-            _ => scene,
-        };
+        let mut pool = take(&mut self.pool);
+        adding::go_on(self, &input, &mut pool, 4);
+        self.pool = pool;
+        let way = random.below(24);
+        input.scene = adding::damaged(random, &input.scene, way);
         input
     }
 
@@ -164,25 +156,10 @@ impl Call for AddEntry {
             // a store that fills at once, some that fill soon, and one that has room for all
             let slots = [2, 3, 4, 5, 5, 6, 6, 7, 8, 15][set % 10];
             let store = stores::new(slots, random.byte());
-            let mut scene = Rc::new(Scene::new(&lexicon, store));
             lines.push(format!("# runtime entries {} of {sets}", set + 1));
-            lines.push(register(0, Form::PhoneTable, &lexicon.sections.phones));
-            lines.push(register(1, Form::Store, &scene.store));
-            let mut at = 1;
-            for _ in 0..cases.div_ceil(sets) {
-                let input = self.to_record(random, &scene, &words);
-                let (case, expected) = case(self, &input, &named([0, at]));
-                let after = expected.outcome.expect("the original answers").written;
-                if after == expected.handed {
-                    lines.push(format!("{case} ="));
-                    continue;
-                }
-                // the store at exit is the next case's store
-                at = 3 - at;
-                lines.push(register(at, Form::Store, &after[0]));
-                lines.push(format!("{case} ${at}"));
-                scene = scene.with_store(after.concat());
-            }
+            let made = |scene: &Rc<Scene>| self.to_record(random, scene, &words);
+            let scene = Rc::new(Scene::new(&lexicon, store));
+            lines.extend(adding::record(self, scene, cases.div_ceil(sets), made));
         }
         lines
     }
@@ -218,33 +195,21 @@ impl AddEntry {
 }
 
 /// A phone table with a store, new or grown before, and words to add; and how many adds they serve.
-fn begin(random: &mut Random, phones: &Phones) -> ((Rc<Scene>, Vec<Vec<u8>>), usize) {
-    let lexicon = Rc::new(lexicon_shapes::of_phones(random, phones));
-    let empty = Scene::new(&lexicon, stores::new(1, 0));
-    let alphabet = words::alphabet(random);
-    let count = random.between(1, 12);
-    let mut words: Vec<Vec<u8>> = (0..count)
-        .map(|_| words::accepted(random, &alphabet))
-        .collect();
-    let mut serves = ADDS;
-    let store = match random.weighted(&[8, 24, 1]) {
+fn begin(random: &mut Random, phones: &Phones) -> (Pool, usize) {
+    let pool = Pool::new(random, phones, None);
+    match random.weighted(&[8, 24, 1]) {
         0 => {
-            let slots = random.between(1, 12);
-            let mut store = stores::new(slots, 0);
+            let mut store = stores::new(random.between(1, 12), 0);
             store_shapes::spoil_unused(random, &mut store);
-            store
+            (pool.with_store(store), ADDS)
         }
-        1 => store_shapes::random(random, &empty, &words, phones),
+        1 => (pool.grown(random, phones), ADDS),
         _ => {
-            // nearly full
-            words.extend((0..200).map(|i| format!("w{i}").into()));
-            serves = 20;
             let slots = LARGEST / SLOT;
             let adds = random.between(slots - 4, 2 * slots);
-            store_shapes::of_size(random, &empty, &words, phones, slots, adds)
+            (pool.nearly_full(random, phones, adds), 20)
         }
-    };
-    ((empty.with_store(store), words), serves)
+    }
 }
 
 /// An add that is accepted if there is room for it.

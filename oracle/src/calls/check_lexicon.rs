@@ -69,9 +69,7 @@ rows! {
         "entries 1 to 100" => (1..=100).contains(&count),
         "entries 101 and more" => count > 100,
     ]
-}
 
-rows! {
     /// What a lexicon has that is accepted.
     YES: accepted(lexicon: &Lexicon) {
         let entries = (0..lexicon.count()).filter_map(|i| lexicon.entry(i).ok());
@@ -87,9 +85,7 @@ rows! {
         "yes: word of 255 bytes" => any(&|e| e.word.len() == 255),
         "yes: last entry ends with the section" => any(&|e| e.numbers.as_ptr_range().end == end),
     ]
-}
 
-rows! {
     /// What a lexicon has that is not.
     NO: amiss(lexicon: &Lexicon) {
         let last = lexicon.count().saturating_sub(1);

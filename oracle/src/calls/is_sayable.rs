@@ -156,9 +156,7 @@ rows! {
         "section without cells" => [0, 1].iter().any(|side| machines.cells(*side).is_empty()),
         "section with an odd last byte" => machines.sections.iter().any(|s| s.len() % 2 == 1),
     ]
-}
 
-rows! {
     /// What the step on '#' leads to.
     START: of_start(start: &Step, prefix: &[u16], suffix: &[u16]) {
         let past = |cells: &[u16]| matches!(start, Step::To(start) if *start >= cells.len());
@@ -167,18 +165,14 @@ rows! {
         "start past the end of aswd.p" => past(prefix),
         "start past the end of aswd.s" => past(suffix),
     ]
-}
 
-rows! {
     /// How the letters lead on from the front.
     FORWARDS: forwards(walk: &Walk) [
         "aswd.p: no step, a zero ends the list" => *walk == Walk::AtZero,
         "aswd.p: no step, the section ends the list" => *walk == Walk::AtEnd,
         "aswd.p: no vowel in the word" => *walk == Walk::NoVowel,
     ]
-}
 
-rows! {
     /// How they lead on from the end, if a vowel was met from the front.
     BACKWARDS: backwards(walk: &Walk, len: usize, from: usize) [
         "aswd.s: no step, a zero ends the list" => *walk == Walk::AtZero,

@@ -64,9 +64,7 @@ rows! {
         "bytes behind the last whole item" => sheet.len() % ITEM != 0,
         "later items that stay as they are" => !zeros(&sheet[ITEM..]),
     ]
-}
 
-rows! {
     /// Why a length is refused.
     LENGTH: length(len: usize) [
         "refusal 2: no bytes" => len == 0,

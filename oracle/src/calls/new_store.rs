@@ -64,9 +64,7 @@ rows! {
         "store of 65,536 bytes" => store.len() == LARGEST,
         "later slots that stay as they are" => !zeros(&store[SLOT..]),
     ]
-}
 
-rows! {
     /// Why a length is refused.
     LENGTH: length(len: usize) [
         "refusal 2: over 65,536 bytes" => len % SLOT == 0 && len > LARGEST,

@@ -152,9 +152,7 @@ rows! {
     STOP: stops(first: usize) [
         "'#' that stops" => first > 0,
     ]
-}
 
-rows! {
     /// What a byte of a word has, as it is read.
     LETTER: of_byte(byte: u8, at: usize, first: usize) {
         let letter = byte.is_ascii_lowercase();
@@ -163,9 +161,7 @@ rows! {
         "byte that is no letter" => !letter,
         "window that reaches over '#'" => letter && first > 1 && at < first + 3,
     ]
-}
 
-rows! {
     /// What a letter's walk met, and its leaf.
     WALKED: walked(walk: &Walk, nodes: usize, name: &[u8]) {
         let is_epsilon = name == b"epsilon";

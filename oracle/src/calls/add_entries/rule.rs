@@ -56,7 +56,7 @@ pub struct Fault {
 }
 
 /// Goes through the lines by 01's rule, up to the first faulty one. Tells what they met.
-pub fn take(input: &Input, met: &mut Met) -> Taken {
+pub fn taken(input: &Input, met: &mut Met) -> Taken {
     let room = stores::room(&input.scene.store);
     let before = input.scene.keys();
     let mut known = before.clone();
@@ -104,17 +104,13 @@ rows! {
         "4: no word before the colon" => !no_colon,
         "4: byte 28 alone" => no_colon && line.trim_ascii() == b"\x1c",
     ]
-}
 
-rows! {
     /// When a store became full.
     pub BY_8: of_full(before: bool) [
         "8: full before the text" => before,
         "8: full by the lines before" => !before,
     ]
-}
 
-rows! {
     /// What the key of a line met that is taken.
     pub KEY: of_key(key: &Key, taken: &[Key], before: &[Key], takes_last: bool) [
         "key of an earlier line" => taken.contains(key),
@@ -151,9 +147,7 @@ rows! {
         "3: long word" => is_long(fields.word),
         "3: long tag" => is_long(fields.tag),
     ]
-}
 
-rows! {
     /// What an unknown phone has.
     pub BY_5: by_5(phone: &[u8]) [
         "5: phone in no table" => phone.len() < 16,
@@ -230,17 +224,13 @@ rows! {
         "stop: earlier lines in the spare" => !taken.keys.is_empty(),
         "stop: a later line is faulty too" => later.any(is_malformed),
     ]
-}
 
-rows! {
     /// What a text has as a whole.
     pub TEXT: of_text(input: &Input, lacks_end: bool) [
         "empty text" => input.text.is_empty(),
         "last line without its end" => lacks_end,
     ]
-}
 
-rows! {
     /// What a line has that is not faulty.
     pub LINE: of_line(line: &[u8], is_entry: bool) {
         let comment = line.contains(&b'#');
@@ -250,9 +240,7 @@ rows! {
         "'#' behind an entry" => is_entry && comment,
         "CR at a line's end" => line.ends_with(b"\r"),
     ]
-}
 
-rows! {
     /// What the line of an entry has.
     pub FIELDS: of_fields(line: &[u8], fields: &Fields) {
         let trimmed = line.trim_ascii();

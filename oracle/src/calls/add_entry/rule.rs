@@ -55,9 +55,7 @@ rows! {
         "3: cell over 15 with a high byte" => cells.iter().any(|cell| is_over(cell) && is_high(cell)),
         "3: in a cell past the 24th" => !front.iter().any(is_high) && behind.iter().any(is_high),
     ]
-}
 
-rows! {
     /// What phones have that are refused by 5.
     pub BY_5: by_5(phones: &List, past_the_24th: bool) {
         let over = phones.cells.iter().any(is_over);
@@ -66,18 +64,14 @@ rows! {
         "5: cell over 15" => over,
         "5: in a cell past the 24th" => past_the_24th,
     ]
-}
 
-rows! {
     /// What an add has that is refused by 7.
     pub BY_7: by_7(count: usize, lacks_room: bool) [
         "7: 25 phones" => count == MOST_PHONES + 1,
         "7: over 96 phones" => count > 96,
         "7: store without an unused slot" => lacks_room,
     ]
-}
 
-rows! {
     /// What a full store has.
     pub BY_8: by_8(entries: usize) [
         "8: store of one slot" => entries == 0,
@@ -150,9 +144,7 @@ rows! {
         "new: written over anything" => !zeros(slot),
         "new: word known with another tag" => before.iter().any(|p| p.entry.word == word),
     ]
-}
 
-rows! {
     /// What an add met whose key was known at this place of the list.
     pub KNOWN: of_known(scene: &Scene, at: usize, given: &Given, store: &[u8]) {
         let before = scene.entries();
@@ -168,9 +160,7 @@ rows! {
         "known: nothing changes" => store == &scene.store[..],
         "known: no unused slot" => before.len() == stores::room(&scene.store),
     ]
-}
 
-rows! {
     /// What the phones of an accepted add have.
     pub LIST: of_list(lexicon: &Lexicon, phones: &List) {
         let names = lexicon.names.as_deref().unwrap_or_default();

@@ -128,17 +128,13 @@ rows! {
         "runtime: phone in no table" => entry.phones.iter().any(|phone| !lexicon.knows(phone)),
         "runtime: 24 phones" => entry.phones.len() == MOST_PHONES,
     ]
-}
 
-rows! {
     /// What a row of the addenda met that is found.
     pub ADDENDA: of_addendum(phones: &[&str], hides_compiled: bool) [
         "addenda: no phones" => phones.is_empty(),
         "addenda: hides a compiled entry" => hides_compiled,
     ]
-}
 
-rows! {
     /// What a word met that the addenda do not answer.
     pub NOT_ADDENDA: passed_addenda(word: &[u8]) {
         let other = |row: Addendum| row.1 != word && row.1.eq_ignore_ascii_case(word);
@@ -146,9 +142,7 @@ rows! {
         "addenda: tag does not fit" => addenda().any(|row| row.1 == word),
         "addenda: word in another case" => addenda().any(other),
     ]
-}
 
-rows! {
     /// What was passed or not read.
     pub BESIDE: beside(passed_runtime: bool, lexicon: &Lexicon) [
         "runtime: none fits, further on found" => passed_runtime,
@@ -199,9 +193,7 @@ rows! {
         "none: another word stands there" => at < count,
         "none: word there, but not where the search ends" => (0..count.min(100)).any(there),
     ]
-}
 
-rows! {
     /// What a compiled entry met that was chosen from the run of its word.
     pub COMPILED: chosen_entry(
         sought: &Sought,
@@ -232,9 +224,7 @@ rows! {
         "compiled: 96 phones" => numbers.len() == LONGEST,
         "compiled: number 255" => numbers.contains(&255),
     ]
-}
 
-rows! {
     /// What the lexicon of a chosen entry is. In a checked one the entry is that of 01's direct rule.
     pub CHECKED: checked(sought: &Sought, lexicon: &Lexicon, chosen: usize) {
         // a lexicon of thousands would take its time here

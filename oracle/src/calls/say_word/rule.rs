@@ -84,26 +84,20 @@ rows! {
         "1: letter trees alone, for a word that lookup has" => has,
         "1: letter trees alone, otherwise" => !lexicon && !has,
     ]
-}
 
-rows! {
     /// What is refused by 2.
     pub BY_2: by_2(store: bool, sheet: bool) [
         "2: the store" => store && !sheet,
         "2: the sheet" => !store && sheet,
         "2: both" => store && sheet,
     ]
-}
 
-rows! {
     /// What is refused by 3.
     pub BY_3: by_3(word: bool) [
         "3: the word" => word,
         "3: the tag" => !word,
     ]
-}
 
-rows! {
     /// What a word has that is said by its letters.
     pub LETTERS: by_letters(input: &Input) {
         let Input { scene, trees, wanted, .. } = input;
@@ -115,9 +109,7 @@ rows! {
         "letters: damage that is not walked" => trees.has_damage,
         "letters: lookup has the word in another case" => compiled.any(|e| e.is_ok_and(other)),
     ]
-}
 
-rows! {
     /// What a word met that is refused by 7 or 9.
     pub BY_7_OR_9: by_7_or_9(input: &Input, word: &Word, unused: usize) {
         let phones = word.phones().count();
@@ -131,9 +123,7 @@ rows! {
         "9: 63 bytes more are no item" => one_too_few && input.sheet.len() % ITEM == ITEM - 1,
         "9: word without phones" => !long && phones == 0,
     ]
-}
 
-rows! {
     /// What the phones and the syllables of an accepted word have.
     pub SPOKEN: spoken(origin: &Origin, word: &Word) {
         let bare = origin.bare();
@@ -155,9 +145,7 @@ rows! {
         "pau among others" => bare.len() > 1 && bare.contains(&&b"pau"[..]),
         "syllable without a vowel" => syllables.iter().any(|s| !s.phones.iter().any(is_vowel)),
     ]
-}
 
-rows! {
     /// What the digits of an accepted word have.
     pub DIGITS: digits(origin: &Origin, word: &Word) {
         let split: Vec<(&[u8], Option<u8>)> = origin.phones.iter().map(|p| split(p)).collect();
@@ -185,9 +173,7 @@ rows! {
         "two digits, one comes off" => any_with(&|bare| self::split(bare).1.is_some()),
         "digit 2 stays" => split.iter().any(|(bare, _)| bare.ends_with(b"2")),
     ]
-}
 
-rows! {
     /// What an accepted word met on its sheet.
     pub ADDED: added(input: &Input, word: &Word, before: &[Placed]) {
         let used = sheets::used(before) + word.items();
