@@ -6,6 +6,7 @@ use crate::notation;
 use crate::ours::{Answer, Function};
 use crate::random::Random;
 use crate::rows::Met;
+use crate::shrink::Shrink;
 use std::panic::{catch_unwind, AssertUnwindSafe};
 use std::sync::atomic::{AtomicBool, Ordering};
 
@@ -120,7 +121,7 @@ pub const OUTPUT_OR_NONE: Rows = &["nothing needed, no output", OUTPUT[0], OUTPU
 pub const TOO_SHORT: Rows = &["9: one byte too few", "9: no output"];
 
 pub trait Call: Default {
-    type Input: Clone;
+    type Input: Shrink;
     const NAME: &'static str;
     /// How many random calls are this one, beside the shares of the others.
     const SHARE: usize;
@@ -145,9 +146,6 @@ pub trait Call: Default {
 
     /// What the library is lent, in the order of its parameters.
     fn lent<'a>(&self, input: &'a Self::Input) -> Vec<Part<'a>>;
-
-    /// Inputs with something left out, the boldest first.
-    fn smaller(&self, input: &Self::Input) -> Vec<Self::Input>;
 
     /// Lines of the recorded list, at least so many of them cases; none of what the original does not answer.
     fn record(&self, _random: &mut Random, _cases: usize) -> Vec<String> {

@@ -3,7 +3,7 @@
 use crate::lent::Part;
 use crate::notation::Form;
 use crate::random::Random;
-use crate::shrink::{shorter, Smaller};
+use crate::shrink::Shrink;
 
 pub const CELL: usize = 16;
 pub type Cell = [u8; CELL];
@@ -70,22 +70,19 @@ impl List {
             }
         }
     }
+}
 
-    /// Lists with something left out, or with plain phones in them.
-    pub fn smaller(&self, plain: &[&[u8]]) -> Vec<List> {
-        let plain: Vec<Cell> = plain.iter().map(|phone| cell(phone)).collect();
-        let others = self.cells.iter().enumerate();
-        let others = others.filter(|(_, given)| !plain.contains(given));
-        let plainer = others.flat_map(|(i, given)| {
-            let plainer = plain.iter().copied().chain([cell(text(given))]);
-            let plainer = plainer.filter(move |plainer| plainer != given);
-            plainer.map(move |plainer| (i, plainer))
-        });
-        Smaller::of(self)
-            .with(shorter(&self.cells), |list, cells| list.cells = cells)
-            .with(shorter(&self.rest), |list, rest| list.rest = rest)
-            .with(plainer.collect(), |list, (i, cell)| list.cells[i] = cell)
-            .all
+smaller!(List: cells, rest);
+
+/// Plain phones in its place, or the same without what stands past the text.
+impl Shrink for Cell {
+    fn smaller(&self) -> Vec<Cell> {
+        let plain = [cell(b"t"), cell(b"ae")];
+        let plainer = plain.into_iter().chain([cell(text(self))]);
+        match plain.contains(self) {
+            true => vec![],
+            false => plainer.filter(|plainer| plainer != self).collect(),
+        }
     }
 }
 

@@ -2,6 +2,7 @@
 
 use crate::notation::Form;
 use crate::random::Random;
+use crate::shrink::{with, Shrink};
 use std::borrow::Cow;
 
 const GUARD: usize = 24;
@@ -184,9 +185,11 @@ impl Room {
         let byte = |i: usize| self.fill.wrapping_add(self.step.wrapping_mul(i as u8));
         (0..len).map(byte).collect()
     }
+}
 
-    /// Plainer rooms, for shrinking.
-    pub fn smaller(&self) -> Vec<Room> {
+/// Plainer rooms.
+impl Shrink for Room {
+    fn smaller(&self) -> Vec<Room> {
         let sizes = match self.size {
             Size::Exact => vec![],
             Size::More(1) => vec![Size::Exact],
@@ -194,10 +197,7 @@ impl Room {
             Size::Short(1) => vec![Size::Exact],
             Size::Short(n) => vec![Size::Exact, Size::Short(1), Size::Short(n / 2)],
         };
-        let mut rooms: Vec<Room> = sizes
-            .into_iter()
-            .map(|size| Room { size, ..*self })
-            .collect();
+        let mut rooms = with(self, sizes, |room, size| room.size = size);
         if self.step != 0 || self.fill != Room::PLAIN.fill {
             rooms.push(Room {
                 size: self.size,

@@ -3,7 +3,7 @@
 use crate::lexicons::{entry_bytes, index, sections, Lexicon, Row, Sections};
 use crate::phones::Phones;
 use crate::random::Random;
-use crate::shrink::{parts, shorter, without, Smaller};
+use crate::shrink::{parts, shorter, with, without, Shrink};
 use crate::tables::{self, phone_table, put};
 use crate::words;
 use original::lexicon::probe;
@@ -302,59 +302,35 @@ fn break_phones(random: &mut Random, table: &mut Vec<u8>, names: usize) {
     tables::break_form(random, table, names, way);
 }
 
-/// Lexicons with something left out, for shrinking.
-pub fn smaller(lexicon: &Lexicon) -> Vec<Rc<Lexicon>> {
-    let given = &lexicon.sections;
-    let smaller = Smaller::of(given);
-    let all = match (&lexicon.names, &lexicon.offsets) {
-        (Some(names), Some(offsets)) => {
-            let mut all = smaller
-                .with(shorter(names), |s, names| s.phones = phone_table(&names))
-                .all;
-            let rows: Result<Vec<Row>, _> = (0..lexicon.count())
-                .map(|i| lexicon.entry(i).map(Row::from))
-                .collect();
-            all.extend(match rows {
-                Ok(rows) => fewer_rows(given, names, &rows),
-                Err(_) => fewer_bytes(given, offsets),
-            });
-            all
-        }
-        _ => {
-            smaller
-                .with(shorter(&given.data), |s, data| s.data = data)
-                .with(shorter(&given.index), |s, index| s.index = index)
-                .with(shorter(&given.phones), |s, phones| s.phones = phones)
-                .all
-        }
-    };
-    all.into_iter().map(Lexicon::new).map(Rc::new).collect()
+impl Shrink for Rc<Lexicon> {
+    fn smaller(&self) -> Vec<Rc<Lexicon>> {
+        let given = &self.sections;
+        let all = match (&self.names, &self.offsets) {
+            (Some(names), Some(offsets)) => {
+                let tables = with(given, names.smaller(), |s, names| {
+                    s.phones = phone_table(&names)
+                });
+                let rows: Result<Vec<Row>, _> = (0..self.count())
+                    .map(|i| self.entry(i).map(Row::from))
+                    .collect();
+                let fewer = match rows {
+                    Ok(rows) => fewer_rows(given, names, &rows),
+                    Err(_) => fewer_bytes(given, offsets),
+                };
+                [tables, fewer].concat()
+            }
+            _ => given.smaller(),
+        };
+        all.into_iter().map(Lexicon::new).map(Rc::new).collect()
+    }
 }
 
 /// Entries left out or made plainer, and written one behind the other.
-fn fewer_rows(given: &Sections, names: &[Vec<u8>], rows: &[Row]) -> Vec<Sections> {
-    let mut all = vec![];
-    let plain = sections(names, rows);
-    if plain.data != given.data || plain.index != given.index || plain.phones != given.phones {
-        all.push(plain);
-    }
-    for rows in shorter(rows) {
-        all.push(sections(names, &rows));
-    }
-    for i in 0..rows.len().min(16) {
-        let mut change = |row: Row| {
-            let mut rows = rows.to_vec();
-            rows[i] = row;
-            all.push(sections(names, &rows));
-        };
-        let plainer = Smaller::of(&rows[i])
-            .with(shorter(&rows[i].numbers), |row, numbers| {
-                row.numbers = numbers
-            })
-            .with(shorter(&rows[i].word), |row, word| row.word = word);
-        plainer.all.into_iter().for_each(&mut change);
-    }
-    all
+fn fewer_rows(given: &Sections, names: &[Vec<u8>], rows: &Vec<Row>) -> Vec<Sections> {
+    let written = |rows: &Vec<Row>| sections(names, rows);
+    let plain = Some(written(rows)).filter(|plain| plain != given);
+    let fewer = rows.smaller();
+    plain.into_iter().chain(fewer.iter().map(written)).collect()
 }
 
 /// Offsets left out, or bytes, behind which the offsets move.
@@ -368,8 +344,8 @@ fn fewer_bytes(given: &Sections, offsets: &[usize]) -> Vec<Sections> {
         sections.index = index(&offsets.iter().map(moved).collect::<Vec<usize>>());
         sections.data = without(&given.data, &part);
     };
-    Smaller::of(given)
-        .with(shorter(offsets), |s, offsets| s.index = index(&offsets))
-        .with(parts(given.data.len()), cut)
-        .all
+    let fewer = with(given, shorter(offsets), |s, offsets| {
+        s.index = index(&offsets)
+    });
+    [fewer, with(given, parts(given.data.len()), cut)].concat()
 }

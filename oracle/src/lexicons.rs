@@ -8,7 +8,7 @@ use original::{lexicon, phoneset};
 use std::rc::Rc;
 
 /// The three sections as bytes.
-#[derive(Clone)]
+#[derive(Clone, PartialEq)]
 pub struct Sections {
     pub phones: Vec<u8>,
     pub index: Vec<u8>,
@@ -25,6 +25,8 @@ impl Sections {
     }
 }
 
+smaller!(Sections: data, index, phones);
+
 /// A compiled entry before it is written.
 #[derive(Clone)]
 pub struct Row {
@@ -32,6 +34,8 @@ pub struct Row {
     pub word: Vec<u8>,
     pub numbers: Vec<u8>,
 }
+
+smaller!(Row: numbers, word);
 
 /// A compiled entry that is not damaged.
 #[derive(Clone, Copy)]

@@ -4,8 +4,10 @@ use crate::forever::{hold, Held};
 use crate::lent::Part;
 use crate::notation::Form;
 use crate::random::Random;
+use crate::shrink::{with, Shrink};
 use crate::words;
 use original::language::Sayable;
+use std::rc::Rc;
 
 /// Bytes that stand before the cells and are skipped.
 const HEAD: usize = 4;
@@ -56,6 +58,16 @@ fn parts([prefix, suffix]: &[Vec<u8>; 2]) -> [Part<'_>; 2] {
         Part::read("aswd.p", Form::Bytes, prefix),
         Part::read("aswd.s", Form::Bytes, suffix),
     ]
+}
+
+impl Shrink for Rc<Machines> {
+    fn smaller(&self) -> Vec<Rc<Machines>> {
+        let [prefix, suffix] = &self.sections;
+        let prefixes = with(&self.sections, prefix.smaller(), |s, prefix| s[0] = prefix);
+        let suffixes = with(&self.sections, suffix.smaller(), |s, suffix| s[1] = suffix);
+        let made = |sections| Rc::new(Machines::new(sections, vec![]));
+        prefixes.into_iter().chain(suffixes).map(made).collect()
+    }
 }
 
 /// A section of these cells.

@@ -2,6 +2,8 @@
 
 #[macro_use]
 mod rows;
+#[macro_use]
+mod shrink;
 
 mod call;
 mod calls;
@@ -25,7 +27,6 @@ mod scene;
 mod sheet_edges;
 mod sheet_shapes;
 mod sheets;
-mod shrink;
 mod spoken;
 mod store_edges;
 mod store_shapes;

@@ -14,7 +14,7 @@ pub(crate) use crate::records::{self, zeros};
 pub(crate) use crate::rows::Met;
 pub(crate) use crate::scene::{ascii, key, ways, Add, Key, Scene};
 pub(crate) use crate::sheets::{self, ITEM};
-pub(crate) use crate::shrink::{shorter, Smaller};
+pub(crate) use crate::shrink::{with, Shrink};
 pub(crate) use crate::stores::{self, Entry, MOST_PHONES, SLOT};
 pub(crate) use crate::trees::Trees;
 pub(crate) use crate::words::{self, Wanted};

@@ -2,8 +2,8 @@
 
 use crate::forever::{hold_texts, Held};
 use crate::lent::Part;
-use crate::lexicon_shapes;
 use crate::lexicons::Lexicon;
+use crate::shrink::Shrink;
 use crate::store_shapes;
 use crate::stores::{self, Entry, Placed};
 use original::lexicon::{self, probe};
@@ -85,15 +85,6 @@ impl Scene {
     /// The same store beside another lexicon.
     pub fn with_lexicon(&self, lexicon: &Rc<Lexicon>) -> Rc<Scene> {
         Rc::new(Scene::new(lexicon, self.store.clone()))
-    }
-
-    /// Scenes with something left out, for shrinking.
-    pub fn smaller(&self) -> Vec<Rc<Scene>> {
-        let lexicons = lexicon_shapes::smaller(&self.lexicon);
-        let lexicons = lexicons.iter().map(|lexicon| self.with_lexicon(lexicon));
-        let stores = store_shapes::smaller(&self.store).into_iter();
-        let stores = stores.map(|store| self.with_store(store));
-        lexicons.chain(stores).collect()
     }
 
     /// The phone table of the lexicon, which is all that adding takes of it.
@@ -192,6 +183,16 @@ impl Scene {
         });
         self.store_of(&keys, &list)
             .expect("the original adds what 01 says")
+    }
+}
+
+impl Shrink for Rc<Scene> {
+    fn smaller(&self) -> Vec<Rc<Scene>> {
+        let lexicons = self.lexicon.smaller().into_iter();
+        let lexicons = lexicons.map(|lexicon| self.with_lexicon(&lexicon));
+        let stores = store_shapes::smaller(&self.store).into_iter();
+        let stores = stores.map(|store| self.with_store(store));
+        lexicons.chain(stores).collect()
     }
 }
 

@@ -5,7 +5,7 @@ use crate::random::Random;
 use crate::records::{self, put};
 use crate::sheet_edges::{in_order, sheet};
 use crate::sheets::{self, ITEM, LARGEST};
-use crate::shrink::{shorter, Smaller};
+use crate::shrink::Shrink;
 use crate::spoken::{Syllable, Word};
 use crate::words;
 
@@ -169,56 +169,24 @@ pub fn smaller(sheet: &[u8]) -> Vec<Vec<u8>> {
     };
     let from = sheets::unused(sheet);
     let mut all = vec![];
-    for len in [
-        from,
-        from + ITEM - 1,
-        from + ITEM,
-        sheet.len() - sheet.len() % ITEM,
-    ] {
-        if len < sheet.len() {
-            all.push(sheet[..len].to_vec());
-        }
-    }
+    let whole = sheet.len() - sheet.len() % ITEM;
+    let lengths = [from, from + ITEM - 1, from + ITEM, whole];
+    let shorter = lengths.into_iter().filter(|len| *len < sheet.len());
+    all.extend(shorter.map(|len| sheet[..len].to_vec()));
     if sheet.len() >= from + 2 * ITEM {
         all.push(sheet[..sheet.len() - ITEM].to_vec());
     }
-    if !records::zeros(&sheet[from..]) {
-        all.push([&sheet[..from], &vec![0; sheet.len() - from]].concat());
-    }
+    let zeroed = records::zeroed(&sheet[from..]).into_iter();
+    all.extend(zeroed.map(|behind| [&sheet[..from], &behind].concat()));
     // the items of words that are left out become unused
     let rewritten = |words: &[Word]| sheets::write(sheet, &in_order(words));
     let words: Vec<Word> = placed.iter().map(|placed| placed.word.clone()).collect();
     if in_order(&words) != placed {
         all.push(rewritten(&words));
     }
-    for kept in shorter(&words) {
-        all.push(rewritten(&kept));
-    }
-    for (i, word) in words.iter().enumerate().take(8) {
-        for plainer in plainer_words(word) {
-            let mut words = words.clone();
-            words[i] = plainer;
-            all.push(rewritten(&words));
-        }
-    }
-    all
-}
-
-fn plainer_words(word: &Word) -> Vec<Word> {
-    let syllables = word.syllables.iter().enumerate();
-    let phones = syllables.flat_map(|(i, syllable)| {
-        let shorter = shorter(&syllable.phones).into_iter();
-        shorter.map(move |phones| (i, phones))
-    });
-    let mut all = Smaller::of(word)
-        .with(shorter(&word.syllables), |word, syllables| {
-            word.syllables = syllables
-        })
-        .with(phones.collect(), |word, (i, phones)| {
-            word.syllables[i].phones = phones
-        })
-        .with(shorter(&word.text), |word, text| word.text = text)
-        .all;
-    all.retain(|word| word.syllables.iter().all(|s| !s.phones.is_empty()));
+    let mut fewer = words.smaller();
+    let has_phones = |word: &Word| word.syllables.iter().all(|s| !s.phones.is_empty());
+    fewer.retain(|words| words.iter().all(has_phones));
+    all.extend(fewer.iter().map(|words| rewritten(words)));
     all
 }

@@ -24,6 +24,9 @@ pub struct Syllable {
     pub phones: Vec<Vec<u8>>,
 }
 
+smaller!(Word: syllables, text);
+smaller!(Syllable: phones);
+
 impl Word {
     pub fn phones(&self) -> impl Iterator<Item = &Vec<u8>> {
         self.syllables.iter().flat_map(|syllable| &syllable.phones)

@@ -4,7 +4,7 @@ use crate::phones::Phones;
 use crate::random::Random;
 use crate::records::{self, put};
 use crate::scene::{Add, Scene};
-use crate::shrink::shorter;
+use crate::shrink::Shrink;
 use crate::stores::{self, Placed, LARGEST, SLOT};
 use crate::words;
 
@@ -211,9 +211,7 @@ pub fn smaller(store: &[u8]) -> Vec<Vec<u8>> {
         }
         stores::write(store, &chain)
     };
-    for kept in shorter(&chain) {
-        all.push(rewritten(&kept));
-    }
+    all.extend(chain.smaller().iter().map(|chain| rewritten(chain)));
     let from = stores::unused(store);
     for slots in [0, 1, 2] {
         let len = from + SLOT * slots;
@@ -221,33 +219,14 @@ pub fn smaller(store: &[u8]) -> Vec<Vec<u8>> {
             all.push(store[..len].to_vec());
         }
     }
-    if !records::zeros(&store[from..]) {
-        all.push([&store[..from], &vec![0; store.len() - from]].concat());
+    let zeroed = records::zeroed(&store[from..]).into_iter();
+    all.extend(zeroed.map(|behind| [&store[..from], &behind].concat()));
+    let mut ordered = chain.clone();
+    for (slot, placed) in (1..).zip(&mut ordered) {
+        placed.slot = slot;
     }
-    let ordered: Vec<Placed> = (1..)
-        .zip(&chain)
-        .map(|(slot, placed)| Placed {
-            slot,
-            entry: placed.entry.clone(),
-        })
-        .collect();
     if ordered != chain {
         all.push(rewritten(&ordered));
-    }
-    for i in 0..chain.len().min(16) {
-        let phones = shorter(&chain[i].entry.phones);
-        let words = shorter(&chain[i].entry.word);
-        let mut change = |change: &dyn Fn(&mut Placed)| {
-            let mut chain = chain.clone();
-            change(&mut chain[i]);
-            all.push(rewritten(&chain));
-        };
-        for phones in phones {
-            change(&|placed| placed.entry.phones = phones.clone());
-        }
-        for word in words {
-            change(&|placed| placed.entry.word = word.clone());
-        }
     }
     all
 }

@@ -43,6 +43,9 @@ pub struct Placed {
     pub entry: Entry,
 }
 
+smaller!(Entry: phones, word);
+smaller!(Placed: entry);
+
 /// Why a store is refused by 2: the rows of the table that count it.
 pub const UNSOUND: &[&str] = &[
     "store: wrong length",

@@ -1,7 +1,7 @@
 //! Letter trees of many shapes, and ways to break them.
 
 use crate::random::Random;
-use crate::shrink::{parts, shorter, without, Smaller};
+use crate::shrink::{parts, without, Shrink};
 use crate::tables::{self, phone_table, put};
 use crate::trees::{Sections, Trees, INDEX, LONGEST_MODEL, NODE};
 use crate::words;
@@ -396,31 +396,26 @@ fn break_one(random: &mut Random, sections: &mut Sections, phones: usize) {
     }
 }
 
-/// Trees with nodes or phones left out, or plainer ones, for shrinking.
-pub fn smaller(trees: &Trees) -> Vec<Rc<Trees>> {
-    let sections = &trees.sections;
-    let mut smaller = Smaller::of(sections);
-    if sections.index.len() > INDEX {
-        let index = sections.index[..INDEX].to_vec();
-        smaller = smaller.with(vec![index], |s, index| s.index = index);
+/// Trees with nodes or phones left out, or plainer ones.
+impl Shrink for Rc<Trees> {
+    fn smaller(&self) -> Vec<Rc<Trees>> {
+        let all = match &self.names {
+            Some(names) => fewer_nodes(self, names),
+            None => self.sections.smaller(),
+        };
+        let made = |sections: Sections| Rc::new(Trees::new(sections, vec![]));
+        all.into_iter().map(made).collect()
     }
-    let all = match &trees.names {
-        Some(names) => [smaller.all, fewer_nodes(trees, names)].concat(),
-        None => {
-            smaller
-                .with(shorter(&sections.phones), |s, phones| s.phones = phones)
-                .with(shorter(&sections.model), |s, model| s.model = model)
-                .all
-        }
-    };
-    let made = |sections: Sections| Rc::new(Trees::new(sections, vec![]));
-    all.into_iter().map(made).collect()
 }
 
 /// Nodes or phones left out, leaves in the place of questions, starts at the first node.
 fn fewer_nodes(trees: &Trees, names: &[Vec<u8>]) -> Vec<Sections> {
     let sections = &trees.sections;
     let mut all = vec![];
+    if sections.index.len() > INDEX {
+        all.push(sections.clone());
+        all[0].index.truncate(INDEX);
+    }
     let nodes: Vec<Node> = sections.model.chunks(NODE).map(Node::of).collect();
     let starts: [u16; 26] = std::array::from_fn(|i| trees.start(b'a' + i as u8) as u16);
     let rewritten = |starts: &[u16; 26], nodes: &[Node], names: &[Vec<u8>]| Sections {

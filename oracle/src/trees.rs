@@ -32,6 +32,8 @@ impl Sections {
     }
 }
 
+smaller!(Sections: phones, model);
+
 /// Sections, what 01 says of them, and what words to try on them.
 pub struct Trees {
     pub sections: Sections,

@@ -3,7 +3,6 @@
 use crate::lent::Part;
 use crate::notation::Form;
 use crate::random::Random;
-use crate::shrink::{shorter, Smaller};
 
 /// The longest word that 01 accepts.
 pub const LONGEST: usize = 47;
@@ -46,18 +45,13 @@ impl Wanted {
         ]
     }
 
-    pub fn smaller(&self) -> Vec<Wanted> {
-        Smaller::of(self)
-            .with(shorter(&self.word), |wanted, word| wanted.word = word)
-            .with(shorter(&self.tag), |wanted, tag| wanted.tag = tag)
-            .all
-    }
-
     /// What it has, for the table.
     pub fn met(&self) -> Vec<&'static str> {
         [of_word(&self.word), of_tag(&self.tag)].concat()
     }
 }
+
+smaller!(Wanted: word, tag);
 
 pub fn word_part(word: &[u8]) -> Part<'_> {
     Part::read("the word", Form::Text, word)

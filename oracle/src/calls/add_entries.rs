@@ -21,6 +21,24 @@ pub struct Input {
     pub text: Vec<u8>,
 }
 
+impl Shrink for Input {
+    fn smaller(&self) -> Vec<Input> {
+        let fits = self.spare.len() == self.scene.store.len();
+        let texts = with(self, lines::shorter(&self.text), |input, text| {
+            input.text = text
+        });
+        let scenes = with(self, self.scene.smaller(), |input, scene| {
+            if fits {
+                input.spare.resize(scene.store.len(), 0);
+            }
+            input.scene = scene;
+        });
+        let spares = records::zeroed(&self.spare);
+        let spares = with(self, spares, |input, spare| input.spare = spare);
+        [texts, scenes, spares].concat()
+    }
+}
+
 #[derive(Default)]
 pub struct AddEntries {
     phones: Phones,
@@ -116,23 +134,6 @@ impl Call for AddEntries {
             Part::written("the spare", Form::Spare, &input.spare),
             Part::read("the text", Form::Bytes, &input.text),
         ]
-    }
-
-    fn smaller(&self, input: &Input) -> Vec<Input> {
-        let fits = input.spare.len() == input.scene.store.len();
-        let with_scene = |input: &mut Input, scene: Rc<Scene>| {
-            if fits {
-                input.spare.resize(scene.store.len(), 0);
-            }
-            input.scene = scene;
-        };
-        Smaller::of(input)
-            .with(lines::shorter(&input.text), |input, text| input.text = text)
-            .with(input.scene.smaller(), with_scene)
-            .with(records::zeroed(&input.spare), |input, spare| {
-                input.spare = spare
-            })
-            .all
     }
 
     fn record(&self, random: &mut Random, cases: usize) -> Vec<String> {

@@ -32,22 +32,17 @@ impl Given {
         let wanted = self.wanted.parts().into_iter();
         wanted.chain([self.phones.part()]).collect()
     }
-
-    pub fn smaller(&self) -> Vec<Given> {
-        Smaller::of(self)
-            .with(self.wanted.smaller(), |given, wanted| given.wanted = wanted)
-            .with(self.phones.smaller(&[b"t"]), |given, phones| {
-                given.phones = phones
-            })
-            .all
-    }
 }
+
+smaller!(Given: wanted, phones);
 
 #[derive(Clone)]
 pub struct Input {
     pub scene: Rc<Scene>,
     pub given: Given,
 }
+
+smaller!(Input: scene, given);
 
 #[derive(Default)]
 pub struct AddEntry {
@@ -138,13 +133,6 @@ impl Call for AddEntry {
         let mut parts = vec![input.scene.table_part(), store];
         parts.extend(input.given.parts());
         parts
-    }
-
-    fn smaller(&self, input: &Input) -> Vec<Input> {
-        Smaller::of(input)
-            .with(input.scene.smaller(), |input, scene| input.scene = scene)
-            .with(input.given.smaller(), |input, given| input.given = given)
-            .all
     }
 
     fn record(&self, random: &mut Random, cases: usize) -> Vec<String> {

@@ -56,10 +56,6 @@ impl Call for CheckLexicon {
     fn lent<'a>(&self, lexicon: &'a Rc<Lexicon>) -> Vec<Part<'a>> {
         lexicon.sections.parts().into()
     }
-
-    fn smaller(&self, lexicon: &Rc<Lexicon>) -> Vec<Rc<Lexicon>> {
-        lexicon_shapes::smaller(lexicon)
-    }
 }
 
 rows! {

@@ -14,6 +14,8 @@ pub struct Input {
     word: Vec<u8>,
 }
 
+smaller!(Input: word, machines);
+
 #[derive(Default)]
 pub struct IsSayable {
     machines: Served<Rc<Machines>>,
@@ -67,23 +69,6 @@ impl Call for IsSayable {
     fn lent<'a>(&self, input: &'a Input) -> Vec<Part<'a>> {
         let word = words::word_part(&input.word);
         input.machines.parts().into_iter().chain([word]).collect()
-    }
-
-    fn smaller(&self, input: &Input) -> Vec<Input> {
-        let sections = &input.machines.sections;
-        let sides = [0, 1].map(|side| {
-            let shorter = shorter(&sections[side]).into_iter();
-            shorter.map(move |section| (side, section))
-        });
-        let cut = |input: &mut Input, (side, section)| {
-            let mut sections = input.machines.sections.clone();
-            sections[side] = section;
-            input.machines = Rc::new(Machines::new(sections, vec![]));
-        };
-        Smaller::of(input)
-            .with(shorter(&input.word), |input, word| input.word = word)
-            .with(sides.into_iter().flatten().collect(), cut)
-            .all
     }
 
     fn record(&self, random: &mut Random, cases: usize) -> Vec<String> {

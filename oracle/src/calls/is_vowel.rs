@@ -38,10 +38,6 @@ impl Call for IsVowel {
         vec![Part::read("the phone", Form::Text, phone)]
     }
 
-    fn smaller(&self, phone: &Vec<u8>) -> Vec<Vec<u8>> {
-        shorter(phone)
-    }
-
     fn record(&self, random: &mut Random, cases: usize) -> Vec<String> {
         record::cases(self, "vowels", &self.phones.to_record(random, cases))
     }

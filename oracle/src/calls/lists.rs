@@ -183,10 +183,6 @@ impl Call for Lists {
         }
     }
 
-    fn smaller(&self, input: &Input) -> Vec<Input> {
-        smaller::inputs(input)
-    }
-
     fn show(&self, input: &Input, _handed: &[Vec<u8>]) -> String {
         let Sections { lexicon, trees, .. } = &*input.sections;
         let mut lines = vec![

@@ -21,6 +21,8 @@ pub struct Input {
     room: Room,
 }
 
+smaller!(Input: scene, wanted, room);
+
 #[derive(Default)]
 pub struct Lookup {
     phones: Phones,
@@ -124,16 +126,6 @@ impl Call for Lookup {
         parts.extend(input.wanted.parts());
         parts.push(Part::output(Form::Cells, input.room));
         parts
-    }
-
-    fn smaller(&self, input: &Input) -> Vec<Input> {
-        Smaller::of(input)
-            .with(input.scene.smaller(), |input, scene| input.scene = scene)
-            .with(input.wanted.smaller(), |input, wanted| {
-                input.wanted = wanted
-            })
-            .with(input.room.smaller(), |input, room| input.room = room)
-            .all
     }
 
     fn record(&self, random: &mut Random, cases: usize) -> Vec<String> {

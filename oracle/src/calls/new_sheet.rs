@@ -48,10 +48,6 @@ impl Call for NewSheet {
     fn lent<'a>(&self, sheet: &'a Vec<u8>) -> Vec<Part<'a>> {
         vec![Part::written("the sheet", Form::Sheet, sheet)]
     }
-
-    fn smaller(&self, sheet: &Vec<u8>) -> Vec<Vec<u8>> {
-        [shorter(sheet), sheet_shapes::smaller(sheet)].concat()
-    }
 }
 
 rows! {

@@ -49,10 +49,6 @@ impl Call for NewStore {
     fn lent<'a>(&self, store: &'a Vec<u8>) -> Vec<Part<'a>> {
         vec![Part::written("the store", Form::Store, store)]
     }
-
-    fn smaller(&self, store: &Vec<u8>) -> Vec<Vec<u8>> {
-        [shorter(store), store_shapes::smaller(store)].concat()
-    }
 }
 
 rows! {

@@ -10,6 +10,8 @@ pub struct Input {
     pub room: Room,
 }
 
+smaller!(Input: sheet by sheet_shapes::smaller, room);
+
 #[derive(Default)]
 pub struct PhoneString {
     phones: Phones,
@@ -101,14 +103,6 @@ impl Call for PhoneString {
     fn lent<'a>(&self, input: &'a Input) -> Vec<Part<'a>> {
         let sheet = Part::read("the sheet", Form::Sheet, &input.sheet);
         vec![sheet, Part::output(Form::Bytes, input.room)]
-    }
-
-    fn smaller(&self, input: &Input) -> Vec<Input> {
-        let sheets = sheet_shapes::smaller(&input.sheet);
-        Smaller::of(input)
-            .with(sheets, |input, sheet| input.sheet = sheet)
-            .with(input.room.smaller(), |input, room| input.room = room)
-            .all
     }
 
     fn record(&self, random: &mut Random, cases: usize) -> Vec<String> {

@@ -15,6 +15,8 @@ pub struct Input {
     room: Room,
 }
 
+smaller!(Input: word, word by plainer, room, trees);
+
 #[derive(Default)]
 pub struct Predict {
     trees: Served<Rc<Trees>>,
@@ -104,17 +106,6 @@ impl Call for Predict {
         parts.push(words::word_part(&input.word));
         parts.push(Part::output(Form::Cells, input.room));
         parts
-    }
-
-    fn smaller(&self, input: &Input) -> Vec<Input> {
-        Smaller::of(input)
-            .with(shorter(&input.word), |input, word| input.word = word)
-            .with(plainer(&input.word), |input, word| input.word = word)
-            .with(input.room.smaller(), |input, room| input.room = room)
-            .with(tree_shapes::smaller(&input.trees), |input, trees| {
-                input.trees = trees
-            })
-            .all
     }
 
     fn record(&self, random: &mut Random, cases: usize) -> Vec<String> {

@@ -20,6 +20,8 @@ pub struct Input {
     pub wanted: Wanted,
 }
 
+smaller!(Input: sheet by sheet_shapes::smaller, scene, trees, wanted);
+
 /// A lexicon with a store, letter trees, and words to try on them.
 struct Sources {
     scene: Rc<Scene>,
@@ -143,21 +145,6 @@ impl Call for SayWord {
         parts.push(Part::written("the sheet", Form::Sheet, &input.sheet));
         parts.extend(input.wanted.parts());
         parts
-    }
-
-    fn smaller(&self, input: &Input) -> Vec<Input> {
-        Smaller::of(input)
-            .with(sheet_shapes::smaller(&input.sheet), |input, sheet| {
-                input.sheet = sheet
-            })
-            .with(input.scene.smaller(), |input, scene| input.scene = scene)
-            .with(tree_shapes::smaller(&input.trees), |input, trees| {
-                input.trees = trees
-            })
-            .with(input.wanted.smaller(), |input, wanted| {
-                input.wanted = wanted
-            })
-            .all
     }
 
     fn record(&self, random: &mut Random, cases: usize) -> Vec<String> {

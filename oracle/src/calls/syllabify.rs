@@ -11,6 +11,8 @@ pub struct Input {
     room: Room,
 }
 
+smaller!(Input: list, room);
+
 #[derive(Default)]
 pub struct Syllabify {
     phones: Phones,
@@ -118,14 +120,6 @@ impl Call for Syllabify {
     fn lent<'a>(&self, input: &'a Input) -> Vec<Part<'a>> {
         let marks = Part::output(Form::Bytes, input.room);
         vec![input.list.part(), marks]
-    }
-
-    fn smaller(&self, input: &Input) -> Vec<Input> {
-        let lists = input.list.smaller(&[b"t", b"ae"]);
-        Smaller::of(input)
-            .with(lists, |input, list| input.list = list)
-            .with(input.room.smaller(), |input, room| input.room = room)
-            .all
     }
 
     fn record(&self, random: &mut Random, cases: usize) -> Vec<String> {
