@@ -88,11 +88,7 @@ pub fn addenda() -> Vec<&'static str> {
 
 /// Entries, many of them homographs; three of four times their words do not fall.
 fn rows(random: &mut Random, most: usize, alphabet: &[u8], names: usize) -> Vec<Row> {
-    let count = match random.weighted(&[1, 1, 16]) {
-        0 => 0,
-        1 => 1,
-        _ => random.between(2, most),
-    };
+    let count = random.ranged(&[(1, 0, 0), (1, 1, 1), (16, 2, most)]);
     let mut rows: Vec<Row> = vec![];
     while rows.len() < count {
         let word = word(random, alphabet, &rows);

@@ -68,6 +68,16 @@ impl Random {
         unreachable!("the number is below the sum of the weights")
     }
 
+    /// A number from one of some ranges, both ends among them, each range as often as its weight says.
+    pub fn ranged(&mut self, ranges: &[(usize, usize, usize)]) -> usize {
+        let weights: Vec<usize> = ranges.iter().map(|range| range.0).collect();
+        let (_, low, high) = ranges[self.weighted(&weights)];
+        match low == high {
+            true => low,
+            false => self.between(low, high),
+        }
+    }
+
     /// Puts a list in another order.
     pub fn shuffle<T>(&mut self, list: &mut [T]) {
         for i in (1..list.len()).rev() {

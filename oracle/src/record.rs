@@ -18,17 +18,18 @@ const FILE_BYTES: usize = 60_000;
 
 /// Writes about so many cases, dealt among the calls, into files of a folder.
 pub fn write(calls: &[Box<dyn Compared>], folder: &str, seed: u64, count: usize) -> io::Result<()> {
-    let shares: usize = calls.iter().map(|call| call.share_recorded()).sum();
+    let shares: usize = calls.iter().map(|call| call.tally().share_recorded).sum();
     let command = format!("# Made by: oracle/run --record FOLDER --count {count} --seed {seed}");
     let head = format!("{HEAD}\n{command}\n\n");
     std::fs::create_dir_all(folder)?;
     for call in calls {
-        let lines = call.record((count * call.share_recorded()).div_ceil(shares));
+        let share = call.tally().share_recorded;
+        let lines = call.record((count * share).div_ceil(shares));
         if lines.is_empty() {
             continue;
         }
         for (number, text) in parts(&head, &lines).iter().enumerate() {
-            let name = format!("{folder}/{}-{}.txt", call.name(), number + 1);
+            let name = format!("{folder}/{}-{}.txt", call.tally().name, number + 1);
             std::fs::write(name, text)?;
         }
     }

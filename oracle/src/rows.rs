@@ -16,12 +16,17 @@ macro_rules! rows {
     )*};
 }
 
+/// The rank order of the refusals.
+const RANKS: [u32; 9] = [1, 2, 3, 4, 5, 6, 7, 8, 9];
+
 /// The rows that an input met.
 #[derive(Default)]
 pub struct Met {
     rows: Vec<&'static str>,
     /// Rows that count only in tables that have them.
     shared: Vec<&'static str>,
+    /// The rank of the refusal that was last in question.
+    rank: usize,
 }
 
 impl Met {
@@ -47,6 +52,27 @@ impl Met {
     /// Rows that several tables have some of.
     pub fn shared(&mut self, rows: impl IntoIterator<Item = &'static str>) {
         self.shared.extend(rows);
+    }
+
+    /// Refuses what is so, with rows that tell why. Refusals come into question in rank order.
+    pub fn refuse<R: IntoIterator<Item = &'static str>>(
+        &mut self,
+        refusal: u32,
+        is_so: bool,
+        why: impl FnOnce() -> R,
+    ) -> Result<(), u32> {
+        let rank = RANKS.iter().position(|ranked| *ranked == refusal);
+        assert!(rank >= Some(self.rank), "refusal {refusal} is out of rank");
+        self.rank = rank.unwrap_or(0);
+        if is_so {
+            self.all(why());
+        }
+        (!is_so).then_some(()).ok_or(refusal)
+    }
+
+    /// Refuses a store or a sheet that is not sound.
+    pub fn sound<T>(&mut self, read: &Result<T, &'static str>) -> Result<(), u32> {
+        self.refuse(2, read.is_err(), || read.as_ref().err().copied())
     }
 
     /// All of them, in a table of these rows.

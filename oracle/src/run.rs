@@ -122,9 +122,6 @@ fn clipped(line: String) -> String {
 pub trait Compared {
     fn short(&mut self) -> Result<(), String>;
     fn random(&mut self, calls: usize) -> Result<(), String>;
-    fn share(&self) -> usize;
-    fn share_recorded(&self) -> usize;
-    fn name(&self) -> &'static str;
     fn tally(&self) -> &Tally;
     fn record(&self, cases: usize) -> Vec<String>;
 }
@@ -142,18 +139,6 @@ impl<C: Call + 'static> Compared for Runner<C> {
         Ok(())
     }
 
-    fn share(&self) -> usize {
-        C::SHARE
-    }
-
-    fn share_recorded(&self) -> usize {
-        C::SHARE_RECORDED
-    }
-
-    fn name(&self) -> &'static str {
-        C::NAME
-    }
-
     fn tally(&self) -> &Tally {
         &self.tally
     }
@@ -168,7 +153,7 @@ impl<C: Call + 'static> Compared for Runner<C> {
 /// Compares until the limit; a difference ends it.
 pub fn run(calls: &mut [Box<dyn Compared>], limit: Limit) -> Result<(), String> {
     let started = Instant::now();
-    let all_shares: usize = calls.iter().map(|call| call.share()).sum();
+    let all_shares: usize = calls.iter().map(|call| call.tally().share).sum();
     for call in calls.iter_mut() {
         call.short()?;
     }
@@ -187,7 +172,7 @@ pub fn run(calls: &mut [Box<dyn Compared>], limit: Limit) -> Result<(), String> 
         let mut dealt = 0;
         let mut shares = 0;
         for call in calls.iter_mut() {
-            shares += call.share();
+            shares += call.tally().share;
             let part = round * shares / all_shares - dealt;
             call.random(part)?;
             dealt += part;

@@ -70,12 +70,7 @@ pub fn add(
     while words::is_refused(&tag) {
         tag = words::tag(random);
     }
-    let count = match random.weighted(&[1, 10, 2, 1]) {
-        0 => 0,
-        1 => random.between(1, 5),
-        2 => random.between(6, 24),
-        _ => 24,
-    };
+    let count = random.ranged(&[(1, 0, 0), (10, 1, 5), (2, 6, 24), (1, 24, 24)]);
     Add {
         word: words::recased(random, &word),
         tag,

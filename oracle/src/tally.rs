@@ -7,7 +7,10 @@ const WIDTH: usize = 54;
 
 /// The counts of one call's rows.
 pub struct Tally {
-    name: &'static str,
+    pub name: &'static str,
+    /// The call's shares of the random calls and of the recorded cases.
+    pub share: usize,
+    pub share_recorded: usize,
     answers: Rows,
     met: Rows,
     /// How often the original was asked.
@@ -53,6 +56,8 @@ impl Tally {
         let refusals = C::REFUSALS.iter().map(|refusal| row(*refusal, ""));
         Tally {
             name: C::NAME,
+            share: C::SHARE,
+            share_recorded: C::SHARE_RECORDED,
             answers: Rows::new(answers.chain(refusals)),
             met: Rows::new(C::MET.concat().into_iter().map(String::from)),
             asked: 0,

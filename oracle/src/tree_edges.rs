@@ -1,17 +1,13 @@
 //! Letter trees for the short inputs: sections at 01's limits and just past them.
 
 use crate::tables::{self, phone_table};
-use crate::tree_shapes::{index, model, Node};
+use crate::tree_shapes::{model, sections, Node};
 use crate::trees::{Sections, Trees, LONGEST_MODEL, NODE};
 use std::rc::Rc;
 
 /// Trees of one node, whose leaf is this phone.
 pub fn one_leaf(name: &[u8]) -> Trees {
-    let sections = Sections {
-        phones: phone_table(&[name]),
-        index: index(&[0; 26]),
-        model: model(&[Node::leaf(0)]),
-    };
+    let sections = sections(&[name], &[0; 26], &[Node::leaf(0)]);
     Trees::new(sections, b"ab".to_vec())
 }
 

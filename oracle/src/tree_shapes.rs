@@ -6,6 +6,7 @@ use crate::tables::{self, phone_table, put};
 use crate::trees::{Sections, Trees, INDEX, LONGEST_MODEL, NODE};
 use crate::words;
 use original::phoneset;
+use std::ops::Range;
 use std::rc::Rc;
 
 /// A node: a question (feature, wanted byte, next on a match, next otherwise) or a leaf (255, phone number).
@@ -19,12 +20,7 @@ pub struct Node {
 
 impl Node {
     pub fn leaf(phone: u8) -> Node {
-        Node {
-            first: 255,
-            second: phone,
-            yes: 0,
-            no: 0,
-        }
+        Node::of(&[255, phone, 0, 0, 0, 0])
     }
 
     pub fn of(bytes: &[u8]) -> Node {
@@ -45,10 +41,6 @@ pub fn model(nodes: &[Node]) -> Vec<u8> {
     nodes.iter().flat_map(bytes).collect()
 }
 
-pub fn index(starts: &[u16; 26]) -> Vec<u8> {
-    starts.iter().flat_map(|s| s.to_le_bytes()).collect()
-}
-
 /// Trees before they are written as sections.
 struct Plan {
     names: Vec<Vec<u8>>,
@@ -59,11 +51,20 @@ struct Plan {
 
 impl Plan {
     fn sections(&self) -> Sections {
-        Sections {
-            phones: phone_table(&self.names),
-            index: index(&self.starts),
-            model: model(&self.nodes),
-        }
+        sections(&self.names, &self.starts, &self.nodes)
+    }
+
+    fn trees(self) -> Trees {
+        Trees::new(self.sections(), self.alphabet)
+    }
+}
+
+/// Sections of these phones, starts and nodes.
+pub fn sections<T: AsRef<[u8]>>(names: &[T], starts: &[u16; 26], nodes: &[Node]) -> Sections {
+    Sections {
+        phones: phone_table(names),
+        index: starts.iter().flat_map(|s| s.to_le_bytes()).collect(),
+        model: model(nodes),
     }
 }
 
@@ -88,24 +89,22 @@ pub fn random(random: &mut Random) -> Trees {
 
 /// Whole trees of one of the shapes, of a size that a list can hold.
 pub fn to_record(random: &mut Random, shape: usize) -> Trees {
-    let plan = loop {
-        let plan = plan(random, shape % SHAPES, 400);
-        if plan.names.len() > 4 && plan.nodes.len() > 4 {
-            break plan;
-        }
-    };
-    Trees::new(plan.sections(), plan.alphabet)
+    plan_of(random, shape, 400, 5..usize::MAX).trees()
 }
 
 /// Whole trees of a few nodes.
 pub fn few_to_record(random: &mut Random, shape: usize) -> Trees {
-    let plan = loop {
-        let plan = plan(random, shape % SHAPES, 24);
-        if (5..40).contains(&plan.names.len()) && (5..40).contains(&plan.nodes.len()) {
-            break plan;
+    plan_of(random, shape, 24, 5..40).trees()
+}
+
+/// A plan with so many names and nodes.
+fn plan_of(random: &mut Random, shape: usize, most: usize, size: Range<usize>) -> Plan {
+    loop {
+        let plan = plan(random, shape % SHAPES, most);
+        if size.contains(&plan.names.len()) && size.contains(&plan.nodes.len()) {
+            return plan;
         }
-    };
-    Trees::new(plan.sections(), plan.alphabet)
+    }
 }
 
 /// The largest model: a chain over its 65,536 nodes, with so many leaves at the end of it. Half of
@@ -136,7 +135,7 @@ pub fn deepest(random: &mut Random, leaves: usize) -> Trees {
         starts,
         alphabet: b"abcdefgh".to_vec(),
     };
-    Trees::new(plan.sections(), plan.alphabet)
+    plan.trees()
 }
 
 /// How many shapes there are.
@@ -145,34 +144,25 @@ const SHAPES: usize = 5;
 fn plan(random: &mut Random, shape: usize, most: usize) -> Plan {
     let names = names(random);
     let alphabet = words::alphabet(random);
-    let size = match random.weighted(&[1, 6, 3]) {
-        0 => 1,
-        1 => random.between(2, 40),
-        _ => random.between(2, most),
-    };
+    let size = random.ranged(&[(1, 1, 1), (6, 2, 40), (3, 2, most)]);
     let phones = names.len();
-    let (nodes, starts) = match shape {
-        0 => {
-            let nodes = (0..size).map(|_| leaf(random, phones)).collect();
-            anywhere(random, nodes)
-        }
-        1 => {
-            let nodes = chain(random, size, &alphabet, phones);
-            // mostly from the first node, so that walks are long
-            let (nodes, mut starts) = anywhere(random, nodes);
-            for start in starts.iter_mut().step_by(2) {
-                *start = 0;
-            }
-            (nodes, starts)
-        }
-        2 => {
-            let nodes = downhill(random, size, &alphabet, phones);
-            anywhere(random, nodes)
-        }
+    let nodes = match shape {
+        0 => (0..size).map(|_| leaf(random, phones)).collect(),
+        1 => chain(random, size, &alphabet, phones),
+        2 => downhill(random, size, &alphabet, phones),
         3 => {
             let nodes = downhill(random, size, &alphabet, phones);
-            let nodes = renumbered(random, nodes);
-            anywhere(random, nodes)
+            renumbered(random, nodes)
+        }
+        _ => vec![],
+    };
+    let (nodes, starts) = match shape {
+        0..=3 => {
+            let mut starts = std::array::from_fn(|_| random.below(nodes.len()) as u16);
+            // mostly from the first node of a chain, so that walks are long
+            let first = starts.iter_mut().step_by(2).filter(|_| shape == 1);
+            first.for_each(|start| *start = 0);
+            (nodes, starts)
         }
         _ => tree_of_each_letter(random, &alphabet, phones, most),
     };
@@ -193,43 +183,20 @@ fn names(random: &mut Random) -> Vec<Vec<u8>> {
     names
 }
 
-const ODD_NAMES: [&str; 20] = [
-    "",
-    "-",
-    "--",
-    "-x",
-    "x-",
-    "x-y-z",
-    "epsilon-x",
-    "x-epsilon",
-    "epsilon1",
-    "epsilo",
-    "Epsilon",
-    "aaaaaaa-bbbbbbb",
-    "abcdefghijklmno",
-    "--------------a",
-    "0",
-    "1",
-    "-1",
-    "ae2",
-    "a b",
-    "ax11",
-];
+/// Odd names, parted by commas; the first is the empty one.
+const ODD_NAMES: &str = ",-,--,-x,x-,x-y-z,epsilon-x,x-epsilon,epsilon1,epsilo,Epsilon,\
+    aaaaaaa-bbbbbbb,abcdefghijklmno,--------------a,0,1,-1,ae2,a b,ax11";
 
 fn name(random: &mut Random) -> Vec<u8> {
     let known = phoneset::probe::names();
     match random.weighted(&[3, 9, 5, 3, 3, 1]) {
         0 => b"epsilon".to_vec(),
-        1 => [random.pick(&known), random.pick(&["", "", "0", "1"])]
-            .concat()
-            .into_bytes(),
-        2 => [random.pick(&known), "-", random.pick(&known)]
-            .concat()
-            .into_bytes(),
-        3 => [random.pick(&known), "1-", random.pick(&known), "0"]
-            .concat()
-            .into_bytes(),
-        4 => random.pick(&ODD_NAMES).as_bytes().to_vec(),
+        1 => (random.pick(&known).to_string() + random.pick(&["", "", "0", "1"])).into(),
+        2 => format!("{}-{}", random.pick(&known), random.pick(&known)).into(),
+        3 => format!("{}1-{}0", random.pick(&known), random.pick(&known)).into(),
+        4 => random
+            .pick(&ODD_NAMES.split(',').collect::<Vec<_>>())
+            .into(),
         _ => {
             let len = random.between(0, 15);
             (0..len).map(|_| random.below(128) as u8).collect()
@@ -308,12 +275,6 @@ fn renumbered(random: &mut Random, nodes: Vec<Node>) -> Vec<Node> {
         };
     }
     to
-}
-
-/// Starts for nodes of which none is circular.
-fn anywhere(random: &mut Random, nodes: Vec<Node>) -> (Vec<Node>, [u16; 26]) {
-    let starts = std::array::from_fn(|_| random.below(nodes.len()) as u16);
-    (nodes, starts)
 }
 
 /// A binary tree for each letter, as in the real sections.
@@ -418,11 +379,6 @@ fn fewer_nodes(trees: &Trees, names: &[Vec<u8>]) -> Vec<Sections> {
     }
     let nodes: Vec<Node> = sections.model.chunks(NODE).map(Node::of).collect();
     let starts: [u16; 26] = std::array::from_fn(|i| trees.start(b'a' + i as u8) as u16);
-    let rewritten = |starts: &[u16; 26], nodes: &[Node], names: &[Vec<u8>]| Sections {
-        phones: phone_table(names),
-        index: index(starts),
-        model: model(nodes),
-    };
     for part in parts(nodes.len()) {
         let moved = |link: u16| match usize::from(link) {
             at if at >= part.end => link - part.len() as u16,
@@ -434,7 +390,7 @@ fn fewer_nodes(trees: &Trees, names: &[Vec<u8>]) -> Vec<Sections> {
             node.yes = moved(node.yes);
             node.no = moved(node.no);
         }
-        all.push(rewritten(&starts.map(moved), &kept, names));
+        all.push(self::sections(names, &starts.map(moved), &kept));
     }
     for part in parts(names.len()) {
         let mut nodes = nodes.clone();
@@ -445,7 +401,7 @@ fn fewer_nodes(trees: &Trees, names: &[Vec<u8>]) -> Vec<Sections> {
                 _ => {}
             }
         }
-        all.push(rewritten(&starts, &nodes, &without(names, &part)));
+        all.push(self::sections(&without(names, &part), &starts, &nodes));
     }
     if nodes.len() <= 64 {
         for i in 0..nodes.len() {
@@ -453,14 +409,14 @@ fn fewer_nodes(trees: &Trees, names: &[Vec<u8>]) -> Vec<Sections> {
             let plain = Node::leaf(nodes[i].second * u8::from(nodes[i].first == 255));
             if model(&nodes[i..=i]) != model(&[plain]) {
                 nodes[i] = plain;
-                all.push(rewritten(&starts, &nodes, names));
+                all.push(self::sections(names, &starts, &nodes));
             }
         }
     }
     for i in (0..26).filter(|i| starts[*i] != 0) {
         let mut starts = starts;
         starts[i] = 0;
-        all.push(rewritten(&starts, &nodes, names));
+        all.push(self::sections(names, &starts, &nodes));
     }
     all
 }

@@ -184,14 +184,16 @@ pub fn near(random: &mut Random, words: &[Vec<u8>]) -> Vec<u8> {
     word
 }
 
-/// Every word up to a length over an alphabet.
-pub fn every(alphabet: &[u8], longest: usize) -> Vec<Vec<u8>> {
+/// Every word up to a length over an alphabet, or every list of phones over some.
+pub fn every<T: Clone>(alphabet: &[T], longest: usize) -> Vec<Vec<T>> {
     let mut words = vec![vec![]];
     let mut last = words.clone();
     for _ in 0..longest {
-        let longer = |word: &Vec<u8>| {
+        let longer = |word: &Vec<T>| {
             let word = word.clone();
-            alphabet.iter().map(move |b| [&word[..], &[*b]].concat())
+            alphabet
+                .iter()
+                .map(move |b| [&word[..], &[b.clone()]].concat())
         };
         last = last.iter().flat_map(longer).collect();
         words.extend(last.iter().cloned());

@@ -221,11 +221,7 @@ fn table_to_record(random: &mut Random, phones: &Phones) -> Lexicon {
 
 /// A word of a few letters, now and then of the most.
 fn short_word(random: &mut Random) -> Vec<u8> {
-    let len = match random.weighted(&[20, 1, 1]) {
-        0 => random.between(1, 5),
-        1 => 0,
-        _ => words::LONGEST,
-    };
+    let len = random.ranged(&[(20, 1, 5), (1, 0, 0), (1, words::LONGEST, words::LONGEST)]);
     (0..len).map(|_| random.pick_byte(b"aelnst'#0")).collect()
 }
 

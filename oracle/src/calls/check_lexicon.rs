@@ -35,9 +35,7 @@ impl Call for CheckLexicon {
     }
 
     fn rule(&self, lexicon: &Rc<Lexicon>, met: &mut Met) -> Ruling {
-        if !lexicon.has_form() {
-            return Err(1.into());
-        }
+        met.refuse(1, !lexicon.has_form(), || None)?;
         met.all(entries(lexicon.count()));
         let (kind, row) = match lexicon.check() {
             Ok(()) => {

@@ -53,12 +53,8 @@ impl Call for IsSayable {
     }
 
     fn rule(&self, input: &Input, met: &mut Met) -> Ruling {
-        if !input.machines.has_form() {
-            return Err(1.into());
-        }
-        if words::is_refused(&input.word) {
-            return Err(3.into());
-        }
+        met.refuse(1, !input.machines.has_form(), || None)?;
+        met.refuse(3, words::is_refused(&input.word), || None)?;
         let sayable = ask(|| input.machines.original().is_sayable(ascii(&input.word)))?;
         walks(input, met);
         let row = if sayable { "yes" } else { "no" };

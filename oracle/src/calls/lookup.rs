@@ -55,7 +55,7 @@ impl Call for Lookup {
         rule::CHECKED,
         rule::NOTHING,
         rule::BESIDE,
-        &["6: in the halving", "6: in the run or behind it"],
+        rule::DAMAGED,
         &["7 before 9"],
         store_edges::STORE,
         OUTPUT_OR_NONE,

@@ -26,20 +26,14 @@ impl Call for NewSheet {
     }
 
     fn random(&mut self, random: &mut Random) -> Vec<u8> {
-        let items = match random.weighted(&[12, 2, 1]) {
-            0 => random.between(0, 20),
-            1 => random.between(21, 1_023),
-            _ => random.between(1_022, 1_026),
-        };
+        let items = random.ranged(&[(12, 0, 20), (2, 21, 1_023), (1, 1_022, 1_026)]);
         let more = random.below(ITEM) * random.below(2);
         records::random(random, ITEM * items + more)
     }
 
     fn rule(&self, sheet: &Vec<u8>, met: &mut Met) -> Ruling {
-        if !sheets::has_length(sheet.len()) {
-            met.all(length(sheet.len()));
-            return Err(2.into());
-        }
+        let len = sheet.len();
+        met.refuse(2, !sheets::has_length(len), || length(len))?;
         met.all(before(sheet));
         let new = vec![vec![0; ITEM]];
         Ok(Told::new(Answer::accepted(0, 0), "new", new).by_01())

@@ -27,20 +27,14 @@ impl Call for NewStore {
     }
 
     fn random(&mut self, random: &mut Random) -> Vec<u8> {
-        let slots = match random.weighted(&[12, 2, 1]) {
-            0 => random.between(0, 8),
-            1 => random.between(9, 128),
-            _ => random.between(126, 131),
-        };
+        let slots = random.ranged(&[(12, 0, 8), (2, 9, 128), (1, 126, 131)]);
         let more = random.below(SLOT) * usize::from(random.once_in(6));
         records::random(random, SLOT * slots + more)
     }
 
     fn rule(&self, store: &Vec<u8>, met: &mut Met) -> Ruling {
-        if !stores::has_length(store.len()) {
-            met.all(length(store.len()));
-            return Err(2.into());
-        }
+        let len = store.len();
+        met.refuse(2, !stores::has_length(len), || length(len))?;
         met.all(before(store));
         let new = vec![vec![0; SLOT]];
         Ok(Told::new(Answer::accepted(0, 0), "new", new).by_01())

@@ -82,10 +82,9 @@ impl Call for PhoneString {
     }
 
     fn rule(&self, input: &Input, met: &mut Met) -> Ruling {
-        let words = sheets::read(&input.sheet).map_err(|why| {
-            met.row(why);
-            Stop::needing(2, 1)
-        })?;
+        let words = sheets::read(&input.sheet);
+        met.sound(&words).map_err(|two| Stop::needing(two, 1))?;
+        let words = words.unwrap_or_default();
         let phones = words.iter().flat_map(|placed| placed.word.phones());
         let phones: Vec<&[u8]> = phones.map(|phone| &phone[..]).collect();
         let text = spoken::phone_string(&phones)?.into_bytes();

@@ -172,10 +172,9 @@ rows! {
 
 /// The refusal that 01 gives before an output matters, if it gives one. Tells what the walks met.
 pub fn refusal(trees: &Trees, given: &[u8], met: &mut Met) -> Result<(), u32> {
-    let names = trees.names.as_ref().ok_or(1_u32)?;
-    if words::is_refused(given) {
-        return Err(3);
-    }
+    met.refuse(1, trees.names.is_none(), || None)?;
+    met.refuse(3, words::is_refused(given), || None)?;
+    let names = trees.names.as_deref().unwrap_or_default();
     let word = given.to_ascii_lowercase();
     let padded = [b"000#", &word[..], b"#000"].concat();
     let first = word.iter().rposition(|b| *b == b'#').map_or(0, |at| at + 1);

@@ -94,12 +94,10 @@ impl Call for Syllabify {
     fn rule(&self, input: &Input, met: &mut Met) -> Ruling {
         let cells = &input.list.cells;
         let count = cells.len();
-        if cells.iter().any(is_high) {
-            return Err(Stop::needing(3, count));
-        }
-        if count > LONGEST || cells.iter().any(is_over) {
-            return Err(Stop::needing(7, count));
-        }
+        let too_long = count > LONGEST || cells.iter().any(is_over);
+        met.refuse(3, cells.iter().any(is_high), || None)
+            .and_then(|()| met.refuse(7, too_long, || None))
+            .map_err(|refusal| Stop::needing(refusal, count))?;
         let phones: Vec<&str> = cells.iter().map(|cell| ascii(text(cell))).collect();
         let marks = ask(|| lexicon::syllabify(&phones))?;
         let row = match marks.iter().filter(|cut| **cut).count() {
@@ -168,25 +166,16 @@ impl Syllabify {
             "s", "p", "t", "k", "r", "l", "w", "y", "th", "sh", "h", "hh", "st", "ng", "pau", "",
         ];
         let between = |middle: Vec<&'static str>| [&["ae"], &middle[..], &["ae"]].concat();
-        let mut lists: Vec<Vec<&'static str>> = (0..=3).flat_map(|n| every(&mixed, n)).collect();
-        lists.extend((4..=5).flat_map(|n| every(&few, n)));
-        lists.extend(every(&self.phones.names, 2).into_iter().map(between));
-        lists.extend(every(&clustered, 3).into_iter().map(between));
+        let of_length = |alphabet: &[&'static str], least: usize, most: usize| {
+            let lists = words::every(alphabet, most).into_iter();
+            lists.filter(move |list| list.len() >= least)
+        };
+        let mut lists = words::every(&mixed, 3);
+        lists.extend(of_length(&few, 4, 5));
+        lists.extend(of_length(&self.phones.names, 2, 2).map(between));
+        lists.extend(of_length(&clustered, 3, 3).map(between));
         lists
     }
-}
-
-/// Every list of a length.
-fn every(alphabet: &[&'static str], len: usize) -> Vec<Vec<&'static str>> {
-    let mut lists = vec![vec![]];
-    for _ in 0..len {
-        let longer = |list: &Vec<&'static str>| {
-            let list = list.clone();
-            alphabet.iter().map(move |p| [&list[..], &[*p]].concat())
-        };
-        lists = lists.iter().flat_map(longer).collect();
-    }
-    lists
 }
 
 fn input<T: AsRef<[u8]>>(list: &[T], size: Size) -> Input {

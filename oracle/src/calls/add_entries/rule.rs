@@ -7,22 +7,11 @@ use crate::prelude::*;
 /// The refusal that 01 gives before a line is looked at, if it gives one. Tells what made it.
 pub fn refusal(input: &Input, met: &mut Met) -> Result<(), u32> {
     let scene = &input.scene;
-    if scene.lexicon.names.is_none() {
-        return Err(1);
-    }
-    if let Err(why) = scene.entries {
-        met.row(why);
-        return Err(2);
-    }
-    if input.spare.len() != scene.store.len() {
-        met.row("spare of another length");
-        return Err(2);
-    }
-    if !input.text.is_ascii() {
-        met.all(of_high(&input.text));
-        return Err(3);
-    }
-    Ok(())
+    let other = input.spare.len() != scene.store.len();
+    met.refuse(1, scene.lexicon.names.is_none(), || None)?;
+    met.sound(&scene.entries)?;
+    met.refuse(2, other, || ["spare of another length"])?;
+    met.refuse(3, !input.text.is_ascii(), || of_high(&input.text))
 }
 
 rows! {

@@ -56,12 +56,7 @@ impl Texts<'_> {
             true => random.between(1, 9),
             false => 0,
         };
-        let count = match random.weighted(&[1, 12, 1, 1]) {
-            0 => 0,
-            1 => random.between(1, 4),
-            2 => random.between(5, 24),
-            _ => 24,
-        };
+        let count = random.ranged(&[(1, 0, 0), (12, 1, 4), (1, 5, 24), (1, 24, 24)]);
         let (word, tag) = self.key(random);
         let mut fields = vec![quoted(random, word)];
         fields.extend(tag);

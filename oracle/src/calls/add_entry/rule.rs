@@ -8,36 +8,23 @@ use crate::prelude::*;
 pub fn refusal(input: &Input, met: &mut Met) -> Result<(), u32> {
     let Input { scene, given } = input;
     let Given { wanted, phones } = given;
-    if scene.lexicon.names.is_none() {
-        return Err(1);
-    }
-    if let Err(why) = scene.entries {
-        met.row(why);
-        return Err(2);
-    }
-    if wanted.is_refused() || phones.cells.iter().any(is_high) {
-        met.all(by_3(given));
-        return Err(3);
-    }
+    let cells = &phones.cells;
+    met.refuse(1, scene.lexicon.names.is_none(), || None)?;
+    met.sound(&scene.entries)?;
+    let high = wanted.is_refused() || cells.iter().any(is_high);
+    met.refuse(3, high, || by_3(given))?;
     let unknown = |cell: &Cell| is_over(cell) || !scene.lexicon.knows(text(cell));
-    if phones.cells.iter().any(unknown) {
-        let front = phones.cells.iter().take(MOST_PHONES);
-        met.all(by_5(phones, !front.clone().any(unknown)));
-        return Err(5);
-    }
+    let first = cells.iter().position(unknown);
+    met.refuse(5, first.is_some(), || {
+        by_5(phones, first >= Some(MOST_PHONES))
+    })?;
     let key = key(&wanted.word, &wanted.tag);
     let entries = scene.entries();
     let is_known = entries.iter().any(|p| p.entry.key() == (&key.0[..], key.1));
     let lacks_room = entries.len() == stores::room(&scene.store) && !is_known;
-    if phones.cells.len() > MOST_PHONES {
-        met.all(by_7(phones.cells.len(), lacks_room));
-        return Err(7);
-    }
-    if lacks_room {
-        met.all(by_8(entries.len()));
-        return Err(8);
-    }
-    Ok(())
+    let count = cells.len();
+    met.refuse(7, count > MOST_PHONES, || by_7(count, lacks_room))?;
+    met.refuse(8, lacks_room, || by_8(entries.len()))
 }
 
 rows! {

@@ -58,16 +58,9 @@ pub const ADDENDA_WAYS: &[&str] = &[
 pub fn rule(scene: &Scene, wanted: &Wanted, met: &mut Met) -> Result<Found, u32> {
     let lexicon = &scene.lexicon;
     let word = &wanted.word;
-    if !lexicon.has_form() {
-        return Err(1);
-    }
-    if let Err(why) = scene.entries {
-        met.row(why);
-        return Err(2);
-    }
-    if wanted.is_refused() {
-        return Err(3);
-    }
+    met.refuse(1, !lexicon.has_form(), || None)?;
+    met.sound(&scene.entries)?;
+    met.refuse(3, wanted.is_refused(), || None)?;
     let sought = Sought {
         word,
         folded: word.to_ascii_lowercase(),
@@ -150,6 +143,9 @@ rows! {
     ]
 }
 
+/// Where a damaged entry is met.
+pub const DAMAGED: &[&str] = &["6: in the halving", "6: in the run or behind it"];
+
 /// What the compiled entries answer, and what they met.
 fn compiled(
     sought: &Sought,
@@ -159,12 +155,8 @@ fn compiled(
 ) -> Result<Found, u32> {
     match search {
         Search::Damaged { why, in_run } => {
-            met.row(why);
-            met.row(match in_run {
-                true => "6: in the run or behind it",
-                false => "6: in the halving",
-            });
-            Err(6)
+            let place = DAMAGED[usize::from(in_run)];
+            met.refuse(6, true, || [why, place]).map(|()| None)
         }
         Search::Nothing(at) => {
             met.all(nothing(sought.word, lexicon, at));

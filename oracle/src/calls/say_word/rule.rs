@@ -39,23 +39,17 @@ pub fn origin(input: &Input, met: &mut Met) -> Result<Origin, u32> {
         ..
     } = input;
     let found = lookup::rule(scene, wanted, &mut Met::default());
-    if !scene.lexicon.has_form() || trees.names.is_none() {
-        met.all(by_1(&found));
-        return Err(1);
-    }
+    let formless = !scene.lexicon.has_form() || trees.names.is_none();
+    met.refuse(1, formless, || by_1(&found))?;
     let sheet = sheets::read(&input.sheet).err();
     let store = scene.entries.as_ref().err().copied();
-    if store.is_some() || sheet.is_some() {
-        met.all(by_2(store.is_some(), sheet.is_some()));
-        met.all(store.into_iter().chain(sheet));
-        return Err(2);
-    }
-    if wanted.is_refused() {
-        met.all(by_3(words::is_refused(&wanted.word)));
-        return Err(3);
-    }
-    let found = found.inspect_err(|_| met.row("6: compiled entry"))?;
-    if let Some((source, phones)) = found {
+    let unsound = by_2(store.is_some(), sheet.is_some());
+    let whys = || store.into_iter().chain(sheet).chain(unsound);
+    met.refuse(2, store.is_some() || sheet.is_some(), whys)?;
+    let word_too = words::is_refused(&wanted.word);
+    met.refuse(3, wanted.is_refused(), || by_3(word_too))?;
+    met.refuse(6, found.is_err(), || ["6: compiled entry"])?;
+    if let Ok(Some((source, phones))) = found {
         let row = match source {
             Source::Runtime => "runtime",
             Source::Addenda => "addenda",
@@ -63,8 +57,8 @@ pub fn origin(input: &Input, met: &mut Met) -> Result<Origin, u32> {
         };
         return Ok(Origin { row, phones });
     }
-    predict::refusal(trees, &wanted.word, &mut Met::default())
-        .inspect_err(|_| met.row("6: letter tree"))?;
+    let walk = predict::refusal(trees, &wanted.word, &mut Met::default());
+    met.refuse(6, walk.is_err(), || ["6: letter tree"])?;
     met.all(by_letters(input));
     let phones = ask(|| trees.original().predict(ascii(&wanted.word)));
     let phones = phones.expect("the original predicts on trees that are whole");
