@@ -55,39 +55,17 @@ impl Told {
 
 /// Why there is no answer; every byte is to stay.
 pub enum Stop {
-    /// A refusal, the bytes that an output would need, and whether the original was asked.
-    Refused {
-        refusal: u32,
-        need: usize,
-        asked: bool,
-    },
+    /// A refusal that is 01's alone, and the bytes that an output would need.
+    Refused(u32, usize),
+    /// The same of what the original was asked too.
+    RefusedBeside(u32, usize),
     /// The original panicked, or it does not do what 01, as the driver reads it, says of it.
     AtOdds(String),
 }
 
-impl Stop {
-    /// A refusal that is 01's alone, of a call whose output needs so many bytes.
-    pub fn needing(refusal: u32, need: usize) -> Stop {
-        Stop::Refused {
-            refusal,
-            need,
-            asked: false,
-        }
-    }
-
-    /// The same of what the original was asked too.
-    pub fn beside(refusal: u32, need: usize) -> Stop {
-        Stop::Refused {
-            refusal,
-            need,
-            asked: true,
-        }
-    }
-}
-
 impl From<u32> for Stop {
     fn from(refusal: u32) -> Stop {
-        Stop::needing(refusal, CELL)
+        Stop::Refused(refusal, CELL)
     }
 }
 
@@ -182,11 +160,12 @@ fn expected<C: Call>(call: &C, input: &C::Input) -> Expected {
     let mut met = Met::default();
     match call.rule(input, &mut met) {
         Ok(told) => answered::<C>(&parts, told, met),
-        Err(Stop::Refused {
-            refusal,
-            need,
-            asked,
-        }) => refused(refusal, asked, handed(&parts, need), met.counted(C::MET)),
+        Err(Stop::Refused(refusal, need)) => {
+            refused(refusal, false, handed(&parts, need), met.counted(C::MET))
+        }
+        Err(Stop::RefusedBeside(refusal, need)) => {
+            refused(refusal, true, handed(&parts, need), met.counted(C::MET))
+        }
         Err(Stop::AtOdds(why)) => Expected {
             handed: handed(&parts, CELL),
             outcome: Err(why),

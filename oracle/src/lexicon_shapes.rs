@@ -1,14 +1,11 @@
 //! Lexicons of many shapes, and ways to break them.
 
-use crate::lexicons::{entry_bytes, index, sections, Lexicon, Row, Sections};
-use crate::phones::Phones;
-use crate::random::Random;
-use crate::shrink::{parts, shorter, with, without, Shrink};
+use crate::lexicons::{entry_bytes, index, sections, Row, Sections};
+use crate::prelude::*;
+use crate::shrink::{parts, shorter, without};
 use crate::tables::{self, phone_table, put};
-use crate::words;
 use original::lexicon::probe;
 use std::ops::Range;
-use std::rc::Rc;
 
 /// A lexicon, and words to try on it: some of its own, some of the addenda, and others.
 pub struct Shape {

@@ -1,13 +1,8 @@
 //! The two tables of the sayable machines, and the original's reading of them.
 
 use crate::forever::{hold, Held};
-use crate::lent::Part;
-use crate::notation::Form;
-use crate::random::Random;
-use crate::shrink::{with, Shrink};
-use crate::words;
+use crate::prelude::*;
 use original::language::Sayable;
-use std::rc::Rc;
 
 /// Bytes that stand before the cells and are skipped.
 const HEAD: usize = 4;

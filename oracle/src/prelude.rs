@@ -1,4 +1,4 @@
-//! What calls are written with.
+//! What calls and the shapes of their inputs are written with.
 
 pub(crate) use crate::call::{ask, handed, Call, Outcome, Rows, Ruling, Stop, Told};
 pub(crate) use crate::call::{OUTPUT, OUTPUT_OR_NONE, TOO_SHORT};

@@ -1,13 +1,9 @@
 //! A lexicon beside a store, and the original with the same runtime entries.
 
 use crate::forever::{hold_texts, Held};
-use crate::lent::Part;
-use crate::lexicons::Lexicon;
-use crate::shrink::Shrink;
-use crate::store_shapes;
-use crate::stores::{self, Entry, Placed};
-use original::lexicon::{self, probe};
-use std::rc::Rc;
+use crate::prelude::*;
+use crate::stores::Placed;
+use original::lexicon::probe;
 
 /// What lookup and both adds are given.
 pub struct Scene {

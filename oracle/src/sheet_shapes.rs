@@ -1,13 +1,10 @@
 //! Sheets of many shapes, and ways to damage them.
 
-use crate::phones::Phones;
-use crate::random::Random;
-use crate::records::{self, put};
+use crate::prelude::*;
+use crate::records::put;
 use crate::sheet_edges::{in_order, sheet};
-use crate::sheets::{self, ITEM, LARGEST};
-use crate::shrink::Shrink;
+use crate::sheets::LARGEST;
 use crate::spoken::{Syllable, Word};
-use crate::words;
 
 /// Words of any shape that have room in so many items, all that have it if no count is given. Their cuts and phones
 /// need not be those of any rule.

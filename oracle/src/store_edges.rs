@@ -1,10 +1,7 @@
 //! Stores for the short inputs: every small one, and stores at 01's limits and just past them.
 
-use crate::lexicons::Lexicon;
-use crate::records;
-use crate::scene::{Add, Scene};
-use crate::stores::{self, Placed, LARGEST, SLOT};
-use std::rc::Rc;
+use crate::prelude::*;
+use crate::stores::{Placed, LARGEST};
 
 /// An entry to be added, its phones parted by blanks.
 pub fn add(word: &str, tag: &str, phones: &str) -> Add {

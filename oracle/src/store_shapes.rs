@@ -1,12 +1,8 @@
 //! Stores of many shapes, and ways to damage them.
 
-use crate::phones::Phones;
-use crate::random::Random;
-use crate::records::{self, put};
-use crate::scene::{Add, Scene};
-use crate::shrink::Shrink;
-use crate::stores::{self, Placed, LARGEST, SLOT};
-use crate::words;
+use crate::prelude::*;
+use crate::records::put;
+use crate::stores::{Placed, LARGEST};
 
 /// A sound store beside a lexicon that has its form, grown by adds over some words.
 pub fn random(random: &mut Random, empty: &Scene, words: &[Vec<u8>], phones: &Phones) -> Vec<u8> {

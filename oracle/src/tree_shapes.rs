@@ -1,13 +1,10 @@
 //! Letter trees of many shapes, and ways to break them.
 
-use crate::random::Random;
-use crate::shrink::{parts, without, Shrink};
+use crate::prelude::*;
+use crate::shrink::{parts, without};
 use crate::tables::{self, phone_table, put};
-use crate::trees::{Sections, Trees, INDEX, LONGEST_MODEL, NODE};
-use crate::words;
-use original::phoneset;
+use crate::trees::{Sections, INDEX, LONGEST_MODEL, NODE};
 use std::ops::Range;
-use std::rc::Rc;
 
 /// A node: a question (feature, wanted byte, next on a match, next otherwise) or a leaf (255, phone number).
 #[derive(Clone, Copy)]

@@ -102,7 +102,7 @@ impl Call for AddEntry {
             if refusal == 5 && !given.phones.cells.iter().any(is_over) {
                 // the original too refuses a phone that it does not know
                 refused_by_the_original(input)?;
-                return Err(Stop::beside(refusal, 0));
+                return Err(Stop::RefusedBeside(refusal, 0));
             }
             return Err(refusal.into());
         }

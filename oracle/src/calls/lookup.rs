@@ -111,7 +111,7 @@ impl Call for Lookup {
         if count > LONGEST {
             *met = Met::default();
             met.add("7 before 9", room.bytes(phones.len()).len() < phones.len());
-            return Err(Stop::beside(7, phones.len()));
+            return Err(Stop::RefusedBeside(7, phones.len()));
         }
         met.shared(wanted.met());
         met.all(store_edges::features(&scene.store, scene.entries()));

@@ -4,11 +4,18 @@ use crate::prelude::*;
 use crate::records::filled;
 use crate::sheets::LARGEST;
 
+#[derive(Clone)]
+pub struct Input {
+    pub sheet: Vec<u8>,
+}
+
+smaller!(Input: sheet by sheet_shapes::smaller);
+
 #[derive(Default)]
 pub struct NewSheet;
 
 impl Call for NewSheet {
-    type Input = Vec<u8>;
+    type Input = Input;
     const NAME: &'static str = "new_sheet";
     const SHARE: usize = 2;
     const ANSWERS: Rows = &["new"];
@@ -16,22 +23,23 @@ impl Call for NewSheet {
     const MET: &'static [Rows] = &[BEFORE, LENGTH];
     const LIBRARY: Function = ours::new_sheet;
 
-    fn short(&self) -> Vec<Vec<u8>> {
-        let mut inputs: Vec<Vec<u8>> = (0..6 * ITEM).map(filled).collect();
+    fn short(&self) -> Vec<Input> {
+        let mut sheets: Vec<Vec<u8>> = (0..6 * ITEM).map(filled).collect();
         for items in (1..=LARGEST / ITEM).step_by(31).chain([1_023, 1_024]) {
-            inputs.extend([0, 1, ITEM - 1].map(|more| filled(ITEM * items + more)));
+            sheets.extend([0, 1, ITEM - 1].map(|more| filled(ITEM * items + more)));
         }
-        inputs.extend(sheet_edges::limits());
-        inputs
+        sheets.extend(sheet_edges::limits());
+        sheets.into_iter().map(|sheet| Input { sheet }).collect()
     }
 
-    fn random(&mut self, random: &mut Random) -> Vec<u8> {
+    fn random(&mut self, random: &mut Random) -> Input {
         let items = random.ranged(&[(12, 0, 20), (2, 21, 1_023), (1, 1_022, 1_026)]);
         let more = random.below(ITEM) * random.below(2);
-        records::random(random, ITEM * items + more)
+        let sheet = records::random(random, ITEM * items + more);
+        Input { sheet }
     }
 
-    fn rule(&self, sheet: &Vec<u8>, met: &mut Met) -> Ruling {
+    fn rule(&self, Input { sheet }: &Input, met: &mut Met) -> Ruling {
         let len = sheet.len();
         met.refuse(2, !sheets::has_length(len), || length(len))?;
         met.all(before(sheet));
@@ -39,7 +47,7 @@ impl Call for NewSheet {
         Ok(Told::new(Answer::accepted(0, 0), "new", new).by_01())
     }
 
-    fn lent<'a>(&self, sheet: &'a Vec<u8>) -> Vec<Part<'a>> {
+    fn lent<'a>(&self, Input { sheet }: &'a Input) -> Vec<Part<'a>> {
         vec![Part::written("the sheet", Form::Sheet, sheet)]
     }
 }

@@ -5,11 +5,18 @@ use crate::prelude::*;
 use crate::records::filled;
 use crate::stores::LARGEST;
 
+#[derive(Clone)]
+pub struct Input {
+    pub store: Vec<u8>,
+}
+
+smaller!(Input: store by store_shapes::smaller);
+
 #[derive(Default)]
 pub struct NewStore;
 
 impl Call for NewStore {
-    type Input = Vec<u8>;
+    type Input = Input;
     const NAME: &'static str = "new_store";
     const SHARE: usize = 2;
     const ANSWERS: Rows = &["new"];
@@ -17,22 +24,23 @@ impl Call for NewStore {
     const MET: &'static [Rows] = &[BEFORE, LENGTH];
     const LIBRARY: Function = ours::new_store;
 
-    fn short(&self) -> Vec<Vec<u8>> {
-        let mut inputs: Vec<Vec<u8>> = (0..3 * SLOT).map(filled).collect();
+    fn short(&self) -> Vec<Input> {
+        let mut stores: Vec<Vec<u8>> = (0..3 * SLOT).map(filled).collect();
         for slots in 1..=LARGEST / SLOT + 2 {
-            inputs.extend([0, 1, SLOT - 1].map(|more| filled(SLOT * slots + more)));
+            stores.extend([0, 1, SLOT - 1].map(|more| filled(SLOT * slots + more)));
         }
-        inputs.extend(store_edges::limits());
-        inputs
+        stores.extend(store_edges::limits());
+        stores.into_iter().map(|store| Input { store }).collect()
     }
 
-    fn random(&mut self, random: &mut Random) -> Vec<u8> {
+    fn random(&mut self, random: &mut Random) -> Input {
         let slots = random.ranged(&[(12, 0, 8), (2, 9, 128), (1, 126, 131)]);
         let more = random.below(SLOT) * usize::from(random.once_in(6));
-        records::random(random, SLOT * slots + more)
+        let store = records::random(random, SLOT * slots + more);
+        Input { store }
     }
 
-    fn rule(&self, store: &Vec<u8>, met: &mut Met) -> Ruling {
+    fn rule(&self, Input { store }: &Input, met: &mut Met) -> Ruling {
         let len = store.len();
         met.refuse(2, !stores::has_length(len), || length(len))?;
         met.all(before(store));
@@ -40,7 +48,7 @@ impl Call for NewStore {
         Ok(Told::new(Answer::accepted(0, 0), "new", new).by_01())
     }
 
-    fn lent<'a>(&self, store: &'a Vec<u8>) -> Vec<Part<'a>> {
+    fn lent<'a>(&self, Input { store }: &'a Input) -> Vec<Part<'a>> {
         vec![Part::written("the store", Form::Store, store)]
     }
 }

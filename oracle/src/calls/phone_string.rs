@@ -83,7 +83,7 @@ impl Call for PhoneString {
 
     fn rule(&self, input: &Input, met: &mut Met) -> Ruling {
         let words = sheets::read(&input.sheet);
-        met.sound(&words).map_err(|two| Stop::needing(two, 1))?;
+        met.sound(&words).map_err(|two| Stop::Refused(two, 1))?;
         let words = words.unwrap_or_default();
         let phones = words.iter().flat_map(|placed| placed.word.phones());
         let phones: Vec<&[u8]> = phones.map(|phone| &phone[..]).collect();

@@ -126,7 +126,7 @@ impl Call for SayWord {
         };
         if refusal != 0 {
             met.all(rule::by_7_or_9(input, &word, unused));
-            return Err(Stop::beside(refusal, 0));
+            return Err(Stop::RefusedBeside(refusal, 0));
         }
         met.all(rule::spoken(&origin, &word));
         met.all(rule::digits(&origin, &word));

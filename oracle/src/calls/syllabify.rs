@@ -97,7 +97,7 @@ impl Call for Syllabify {
         let too_long = count > LONGEST || cells.iter().any(is_over);
         met.refuse(3, cells.iter().any(is_high), || None)
             .and_then(|()| met.refuse(7, too_long, || None))
-            .map_err(|refusal| Stop::needing(refusal, count))?;
+            .map_err(|refusal| Stop::Refused(refusal, count))?;
         let phones: Vec<&str> = cells.iter().map(|cell| ascii(text(cell))).collect();
         let marks = ask(|| lexicon::syllabify(&phones))?;
         let row = match marks.iter().filter(|cut| **cut).count() {

@@ -3,7 +3,7 @@
 use super::book::Book;
 use super::log::Log;
 use super::{Act, Input, Lists, Step};
-use crate::calls::{add_entries, add_entry, new_store, phone_string, say_word};
+use crate::calls::{add_entries, add_entry, new_sheet, new_store, phone_string, say_word};
 use crate::prelude::*;
 use crate::sheets::Reading;
 
@@ -64,8 +64,14 @@ pub trait Side {
 impl Lists {
     /// What a side makes of a list, as a log.
     pub fn run<S: Side>(&self, input: &Input, side: &mut S) -> Result<Vec<u8>, String> {
-        let store = side.outcome(&new_store::NewStore, &input.store)?;
-        let sheet = side.outcome(&self.new_sheet, &input.sheet)?;
+        let store = new_store::Input {
+            store: input.store.clone(),
+        };
+        let sheet = new_sheet::Input {
+            sheet: input.sheet.clone(),
+        };
+        let store = side.outcome(&new_store::NewStore, &store)?;
+        let sheet = side.outcome(&self.new_sheet, &sheet)?;
         let mut state = State {
             store: store.written.concat(),
             sheet: sheet.written.concat(),
@@ -97,7 +103,10 @@ impl Lists {
     ) -> Result<Answer, String> {
         let lent = input.lent(step);
         match &step.act {
-            Act::NewSheet => made(&self.new_sheet, &state.sheet.clone(), state, side),
+            Act::NewSheet => {
+                let sheet = state.sheet.clone();
+                made(&self.new_sheet, &new_sheet::Input { sheet }, state, side)
+            }
             Act::AddEntry(given) => {
                 let input = add_entry::Input {
                     scene: side.scene(&lent.table, &state.store),
