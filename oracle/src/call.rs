@@ -23,6 +23,16 @@ pub struct Outcome {
     pub altered: Option<String>,
 }
 
+impl Outcome {
+    pub fn new(answer: Answer, written: Vec<Vec<u8>>) -> Outcome {
+        Outcome {
+            answer,
+            written,
+            altered: None,
+        }
+    }
+}
+
 /// What 01 and the original answer.
 pub struct Told {
     pub answer: Answer,
@@ -184,11 +194,7 @@ pub fn handed(parts: &[Part], need: usize) -> Vec<Vec<u8>> {
 
 fn refused(refusal: u32, asked: bool, handed: Vec<Vec<u8>>, met: Vec<&'static str>) -> Expected {
     Expected {
-        outcome: Ok(Outcome {
-            answer: Answer::refused(refusal, 0),
-            written: handed.clone(),
-            altered: None,
-        }),
+        outcome: Ok(Outcome::new(Answer::refused(refusal, 0), handed.clone())),
         handed,
         asked,
         row: row(refusal, ""),
@@ -218,11 +224,7 @@ fn answered<C: Call>(parts: &[Part], told: Told, mut met: Met) -> Expected {
     }
     Expected {
         handed,
-        outcome: Ok(Outcome {
-            answer: told.answer,
-            written,
-            altered: None,
-        }),
+        outcome: Ok(Outcome::new(told.answer, written)),
         asked: told.asked,
         row: row(told.answer.refusal, told.row),
         met: met.counted(C::MET),
@@ -256,12 +258,7 @@ fn ours<C: Call>(call: &C, input: &C::Input, handed: &[Vec<u8>]) -> Outcome {
         false => Lent::new(&part.bytes),
     };
     let mut lent: Vec<Lent> = parts.iter().map(&mut lend).collect();
-    let answer = C::LIBRARY(&mut lent);
-    let mut outcome = Outcome {
-        answer,
-        written: vec![],
-        altered: None,
-    };
+    let mut outcome = Outcome::new(C::LIBRARY(&mut lent), vec![]);
     for (part, lent) in parts.iter().zip(&lent) {
         let altered = match part.is_written() {
             true => !lent.guards_kept(),

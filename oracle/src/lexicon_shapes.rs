@@ -212,70 +212,50 @@ fn break_one(random: &mut Random, sections: &mut Sections, lexicon: &Lexicon) {
         Some(offsets) if entries > 0 => offsets[entry],
         _ => 0,
     };
+    let Sections {
+        phones,
+        index,
+        data,
+    } = sections;
+    let len = data.len();
     match random.below(14) {
-        0 => break_phones(random, &mut sections.phones, names),
-        1 => {
-            let len = random.below(sections.index.len() + 1);
-            sections.index.truncate(len);
-        }
+        0 => break_phones(random, phones, names),
+        1 => index.truncate(random.below(index.len() + 1)),
         2 => {
             let more = [1, 2, random.between(1, 9), 1 << 30, u32::MAX as usize];
             let count = (entries + more[random.below(5)]) as u32;
-            put(&mut sections.index, 0, &count.to_le_bytes());
+            put(index, 0, &count.to_le_bytes());
         }
-        3 | 4 => {
-            let len = random.below(sections.data.len() + 1);
-            sections.data.truncate(len);
-        }
-        5 => sections.data.clear(),
+        3 | 4 => data.truncate(random.below(len + 1)),
+        5 => data.clear(),
         6 | 7 => {
-            let len = sections.data.len();
-            let outside = [
-                len,
-                len - 1.min(len),
-                len + random.below(9),
-                u32::MAX as usize,
-            ];
+            let far = u32::MAX as usize;
+            let outside = [len, len - 1.min(len), len + random.below(9), far];
             let outside = outside[random.below(4)] as u32;
-            put(&mut sections.index, 4 + 4 * entry, &outside.to_le_bytes());
+            put(index, 4 + 4 * entry, &outside.to_le_bytes());
         }
-        8 => put(
-            &mut sections.data,
-            offset + 2,
-            &[128 + random.below(128) as u8],
-        ),
+        8 => put(data, offset + 2, &[128 + random.below(128) as u8]),
         // a word or a list that is longer than it was
-        9 => put(&mut sections.data, offset + 1, &[random.byte()]),
+        9 => put(data, offset + 1, &[random.byte()]),
         10 => {
             if let Ok(entry) = lexicon.entry(entry) {
-                put(
-                    &mut sections.data,
-                    offset + 2 + entry.word.len(),
-                    &[random.byte()],
-                );
+                put(data, offset + 2 + entry.word.len(), &[random.byte()]);
             }
         }
         11 => {
             if let Ok(entry) = lexicon.entry(entry) {
-                let at = offset + 3 + entry.word.len();
                 let last = entry.numbers.len().saturating_sub(1);
-                put(
-                    &mut sections.data,
-                    at + random.between(0, last),
-                    &[names as u8],
-                );
+                let at = offset + 3 + entry.word.len() + random.between(0, last);
+                put(data, at, &[names as u8]);
             }
         }
         _ => {
             for _ in 0..random.between(1, 6) {
                 let byte = [random.byte()];
                 match random.below(4) {
-                    0 => put(&mut sections.phones, random.below(600), &byte),
-                    1 => put(&mut sections.index, random.below(4 * entries + 4), &byte),
-                    _ => {
-                        let len = sections.data.len();
-                        put(&mut sections.data, random.below(len + 1), &byte);
-                    }
+                    0 => put(phones, random.below(600), &byte),
+                    1 => put(index, random.below(4 * entries + 4), &byte),
+                    _ => put(data, random.below(len + 1), &byte),
                 }
             }
         }

@@ -310,44 +310,43 @@ fn grow(
 }
 
 /// Breaks the form of a section, damages a tree, makes a circle, or alters any byte.
-fn break_one(random: &mut Random, sections: &mut Sections, phones: usize) {
+fn break_one(random: &mut Random, sections: &mut Sections, names: usize) {
     let nodes = sections.model.len() / NODE;
     let node = NODE * random.below(nodes.max(1));
+    let Sections {
+        phones,
+        index,
+        model,
+    } = sections;
     match random.below(8 + tables::BREAKS) {
-        way if way < tables::BREAKS => {
-            tables::break_form(random, &mut sections.phones, phones, way);
-        }
-        4 => sections.index.truncate(random.below(INDEX)),
-        5 => {
-            let len = random.below(sections.model.len() + 1);
-            sections.model.truncate(len);
-        }
-        6 => sections.model.clear(),
+        way if way < tables::BREAKS => tables::break_form(random, phones, names, way),
+        4 => index.truncate(random.below(INDEX)),
+        5 => model.truncate(random.below(model.len() + 1)),
+        6 => model.clear(),
         7 => {
             let longer = LONGEST_MODEL + NODE * usize::from(random.once_in(2));
             if random.once_in(20) {
-                sections.model.resize(longer, 255);
+                model.resize(longer, 255);
             }
         }
         8 => {
             let outside = [nodes, nodes + random.below(9), 65_535][random.below(3)] as u16;
-            let letter = 2 * random.below(26);
-            put(&mut sections.index, letter, &outside.to_le_bytes());
+            put(index, 2 * random.below(26), &outside.to_le_bytes());
         }
         9 => {
             // a link to anywhere: outside, back, or to itself
             let link = random.below(nodes + 2) as u16;
             let side = 2 + 2 * random.below(2);
-            put(&mut sections.model, node + side, &link.to_le_bytes());
+            put(model, node + side, &link.to_le_bytes());
         }
-        10 => put(&mut sections.model, node, &[255, phones.min(255) as u8]),
+        10 => put(model, node, &[255, names.min(255) as u8]),
         _ => {
             for _ in 0..random.between(1, 6) {
                 let byte = [random.byte()];
                 match random.below(3) {
-                    0 => put(&mut sections.phones, random.below(600), &byte),
-                    1 => put(&mut sections.index, random.below(INDEX), &byte),
-                    _ => put(&mut sections.model, random.below(NODE * nodes + 1), &byte),
+                    0 => put(phones, random.below(600), &byte),
+                    1 => put(index, random.below(INDEX), &byte),
+                    _ => put(model, random.below(NODE * nodes + 1), &byte),
                 }
             }
         }
