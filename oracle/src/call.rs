@@ -13,6 +13,9 @@ use std::sync::atomic::{AtomicBool, Ordering};
 /// Names of rows of the table.
 pub type Rows = &'static [&'static str];
 
+/// Groups of rows of a table, as `rows!` makes them.
+pub type Table = &'static [&'static [Rows]];
+
 /// What a call gives back.
 #[derive(Clone, PartialEq, Eq)]
 pub struct Outcome {
@@ -121,7 +124,7 @@ pub trait Call: Default {
     /// Refusals that are errors of the original, which may be recorded.
     const ERRORS: &'static [u32] = &[];
     /// The rows that count what inputs met.
-    const MET: &'static [Rows] = &[];
+    const MET: Table = &[];
     const LIBRARY: Function;
 
     /// Edge cases, and every short input.
@@ -233,7 +236,7 @@ fn answered<C: Call>(parts: &[Part], told: Told, mut met: Met) -> Expected {
 
 /// The row of an output that is long enough.
 fn output_row<C: Call>(need: usize, len: usize) -> &'static str {
-    let tells_none = C::MET.contains(&OUTPUT_OR_NONE);
+    let tells_none = C::MET.concat().contains(&OUTPUT_OR_NONE);
     match len > need {
         true => OUTPUT[1],
         false if need == 0 && tells_none => OUTPUT_OR_NONE[0],

@@ -86,15 +86,17 @@ impl Shrink for Cell {
     }
 }
 
-rows! {
+rows! { pub PHONES:
     /// What phones have.
-    pub PHONES: of_phones(phones: &[impl AsRef<[u8]>]) [
+    of_phones(phones: &[impl AsRef<[u8]>]) [
         "phone of 0 bytes" => phones.iter().any(|phone| phone.as_ref().is_empty()),
         "phone of 15 bytes" => phones.iter().any(|phone| phone.as_ref().len() == 15),
     ]
+}
 
+rows! { pub UNREAD:
     /// What a list has that nobody reads.
-    pub UNREAD: unread(list: &List) [
+    unread(list: &List) [
         "bytes past a text" => list.cells.iter().any(|given| cell(text(given)) != *given),
         "bytes behind the last cell" => !list.rest.is_empty(),
     ]

@@ -1,19 +1,20 @@
 //! Rows of the table: what inputs met on their way.
 
-/// Rows of the table, each with what it counts. Makes a list of their names, and a function that tells which of
-/// them are met.
+/// Rows of the table in groups, each row with what it counts. Makes one list of the groups' names, and for each group a
+/// function that tells which of its rows are met.
 macro_rules! rows {
-    ($($(#[$about:meta])* $vis:vis $names:ident: $met:ident($($given:ident: $kind:ty),* $(,)?)
-     $({ $($before:tt)* })? [ $($name:literal => $is_met:expr),* $(,)? ])*) => {$(
-        $vis const $names: &[&str] = &[$($name),*];
+    ($vis:vis $all:ident:
+     $($(#[$about:meta])* $met:ident($($given:ident: $kind:ty),* $(,)?)
+       $({ $($before:tt)* })? [ $($name:literal => $is_met:expr),* $(,)? ])*) => {
+        $vis const $all: &[&[&str]] = &[$(&[$($name),*]),*];
 
-        $(#[$about])*
+        $($(#[$about])*
         $vis fn $met($($given: $kind),*) -> Vec<&'static str> {
             $($($before)*)?
             let rows = [$(($name, $is_met)),*];
             rows.iter().filter(|row| row.1).map(|row| row.0).collect()
-        }
-    )*};
+        })*
+    };
 }
 
 /// The rank order of the refusals.
@@ -76,8 +77,9 @@ impl Met {
     }
 
     /// All of them, in a table of these rows.
-    pub fn counted(self, table: &[&[&str]]) -> Vec<&'static str> {
-        let known = |row: &&str| table.iter().any(|rows| rows.contains(row));
+    pub fn counted(self, table: &[&[&[&str]]]) -> Vec<&'static str> {
+        let groups = table.iter().copied().flatten();
+        let known = |row: &&str| groups.clone().any(|rows| rows.contains(row));
         let shared = self.shared.into_iter().filter(known);
         self.rows.into_iter().chain(shared).collect()
     }

@@ -252,9 +252,9 @@ fn unsound() -> Vec<Vec<u8>> {
     all
 }
 
-rows! {
+rows! { pub SHEET:
     /// What a sound sheet has.
-    pub SHEET: features(sheet: &[u8], words: &[Placed]) {
+    features(sheet: &[u8], words: &[Placed]) {
         let items = words.iter().flat_map(|placed| placed.items.iter().copied());
         let ordered = (1..).zip(items).all(|(at, item)| at == item);
         let unused = &sheet[sheets::unused(sheet)..];

@@ -169,9 +169,9 @@ fn unsound() -> Vec<Vec<u8>> {
     all
 }
 
-rows! {
+rows! { pub STORE:
     /// What a sound store has.
-    pub STORE: features(store: &[u8], entries: &[Placed]) {
+    features(store: &[u8], entries: &[Placed]) {
         let ordered = (1..).zip(entries).all(|(slot, placed)| slot == placed.slot);
         let unused = &store[stores::unused(store)..];
     } [

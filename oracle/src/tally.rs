@@ -59,7 +59,7 @@ impl Tally {
             share: C::SHARE,
             share_recorded: C::SHARE_RECORDED,
             answers: Rows::new(answers.chain(refusals)),
-            met: Rows::new(C::MET.concat().into_iter().map(String::from)),
+            met: Rows::new(C::MET.concat().concat().into_iter().map(String::from)),
             asked: 0,
         }
     }

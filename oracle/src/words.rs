@@ -57,25 +57,6 @@ pub fn word_part(word: &[u8]) -> Part<'_> {
     Part::read("the word", Form::Text, word)
 }
 
-rows! {
-    /// What a word has.
-    pub WORD: of_word(word: &[u8]) [
-        "empty word" => word.is_empty(),
-        "word of 47 bytes" => word.len() == LONGEST,
-        "capital letter" => word.to_ascii_lowercase() != word,
-    ]
-
-    /// What a tag has.
-    pub TAG: of_tag(tag: &[u8]) [
-        "tag empty" => tag.is_empty(),
-        "tag 'nil'" => tag == b"nil",
-        "tag '0'" => tag == b"0",
-        "tag of one byte" => tag.len() == 1,
-        "tag of more bytes" => tag.len() > 1 && tag != b"nil",
-        "tag of 47 bytes" => tag.len() == LONGEST,
-    ]
-}
-
 /// Letters that a set of tables and its words share, so that questions match; now and then all of ASCII.
 pub fn alphabet(random: &mut Random) -> Vec<u8> {
     match random.below(ALPHABETS.len() + 1) {
@@ -214,4 +195,25 @@ pub fn edges() -> Vec<Vec<u8>> {
     words.push(vec![0]);
     words.push([&[b'a'; 47][..], &[200]].concat());
     words
+}
+
+rows! { pub WORD:
+    /// What a word has.
+    of_word(word: &[u8]) [
+        "empty word" => word.is_empty(),
+        "word of 47 bytes" => word.len() == LONGEST,
+        "capital letter" => word.to_ascii_lowercase() != word,
+    ]
+}
+
+rows! { pub TAG:
+    /// What a tag has.
+    of_tag(tag: &[u8]) [
+        "tag empty" => tag.is_empty(),
+        "tag 'nil'" => tag == b"nil",
+        "tag '0'" => tag == b"0",
+        "tag of one byte" => tag.len() == 1,
+        "tag of more bytes" => tag.len() > 1 && tag != b"nil",
+        "tag of 47 bytes" => tag.len() == LONGEST,
+    ]
 }

@@ -4,11 +4,10 @@ mod rule;
 mod short;
 mod texts;
 
-use super::adding::{self, Pool};
+use super::adding::{self, Pool, STORE_ORDER};
 use crate::prelude::*;
 use crate::stores::UNSOUND;
 use rule::{beside_the_original, features, refusal, taken, Fault};
-use std::mem::take;
 pub use texts::Texts;
 
 /// How many texts a lexicon and its store serve.
@@ -54,24 +53,10 @@ impl Call for AddEntries {
     const REFUSALS: &'static [u32] = &[1, 2, 3, 4, 5, 7, 8];
     /// A malformed line, an unknown phone.
     const ERRORS: &'static [u32] = &[4, 5];
-    const MET: &'static [Rows] = &[
-        &["spare of another length"],
-        rule::HIGH,
-        rule::BY_3,
-        rule::BY_4,
-        rule::BY_5,
-        &["7: 25 phones"],
-        rule::BY_8,
-        rule::STOP,
-        rule::TEXT,
-        rule::LINE,
-        rule::FIELDS,
-        rule::KEY,
-        &[
-            "store in another order than its slots",
-            "anything in unused slots",
-        ],
-        UNSOUND,
+    const MET: Table = &[
+        rule::ROWS,
+        &[&["spare of another length", "7: 25 phones"]],
+        &[STORE_ORDER, UNSOUND],
     ];
     const LIBRARY: Function = ours::add_entries;
 
@@ -91,9 +76,8 @@ impl Call for AddEntries {
             spare: random.bytes(scene.store.len()),
             scene: scene.clone(),
         };
-        let mut pool = take(&mut self.pool);
-        adding::go_on(self, &input, &mut pool, 2);
-        self.pool = pool;
+        let outcome = self.expected(&input).outcome;
+        adding::go_on(&mut self.pool, outcome, 2);
         let store = &input.scene.store;
         match random.below(24) {
             way @ 0..=2 => input.scene = adding::damaged(random, &input.scene, way),

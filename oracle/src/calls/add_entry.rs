@@ -4,11 +4,10 @@
 mod rule;
 mod short;
 
-use super::adding::{self, Pool};
+use super::adding::{self, Pool, STORE_ORDER};
 use crate::prelude::*;
 use crate::stores::{LARGEST, UNSOUND};
 use rule::{added, refusal, refused_by_the_original};
-use std::mem::take;
 
 /// How many adds a lexicon and its store serve.
 const ADDS: usize = 60;
@@ -57,23 +56,13 @@ impl Call for AddEntry {
     const SHARE_RECORDED: usize = 24;
     const ANSWERS: Rows = &["new key", "known key"];
     const REFUSALS: &'static [u32] = &[1, 2, 3, 5, 7, 8];
-    const MET: &'static [Rows] = &[
-        rule::NEW,
-        rule::KNOWN,
+    const MET: Table = &[
+        rule::ROWS,
         words::TAG,
         words::WORD,
-        rule::LIST,
         cells::PHONES,
         cells::UNREAD,
-        &[
-            "store in another order than its slots",
-            "anything in unused slots",
-        ],
-        rule::BY_3,
-        rule::BY_5,
-        rule::BY_7,
-        rule::BY_8,
-        UNSOUND,
+        &[STORE_ORDER, UNSOUND],
     ];
     const LIBRARY: Function = ours::add_entry;
 
@@ -88,9 +77,8 @@ impl Call for AddEntry {
             scene: scene.clone(),
         };
         spoil(random, &mut input.given, &self.phones);
-        let mut pool = take(&mut self.pool);
-        adding::go_on(self, &input, &mut pool, 4);
-        self.pool = pool;
+        let outcome = self.expected(&input).outcome;
+        adding::go_on(&mut self.pool, outcome, 4);
         let way = random.below(24);
         input.scene = adding::damaged(random, &input.scene, way);
         input

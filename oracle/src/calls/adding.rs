@@ -2,6 +2,12 @@
 
 use crate::prelude::*;
 
+/// What a store has that both adds count.
+pub const STORE_ORDER: Rows = &[
+    "store in another order than its slots",
+    "anything in unused slots",
+];
+
 /// A store beside its phone table, and words to add.
 pub struct Pool {
     pub scene: Rc<Scene>,
@@ -43,16 +49,13 @@ impl Pool {
 }
 
 /// Lets the next calls see what a call has left; a full store serves only a few of them.
-pub fn go_on<C: Call>(call: &C, input: &C::Input, pool: &mut Served<Pool>, when_full: usize) {
-    let Ok(mut outcome) = call.expected(input).outcome else {
-        return;
-    };
-    match outcome.answer.refusal {
-        0 => {
+pub fn go_on(pool: &mut Served<Pool>, outcome: Result<Outcome, String>, when_full: usize) {
+    match outcome {
+        Ok(mut outcome) if outcome.answer.refusal == 0 => {
             let scene = &mut pool.now().scene;
             *scene = scene.with_store(outcome.written.remove(0));
         }
-        8 => pool.serve_at_most(when_full),
+        Ok(outcome) if outcome.answer.refusal == 8 => pool.serve_at_most(when_full),
         _ => {}
     }
 }

@@ -15,7 +15,7 @@ impl Call for CheckLexicon {
     const SHARE: usize = 10;
     const ANSWERS: Rows = &["yes", "no"];
     const REFUSALS: &'static [u32] = &[1];
-    const MET: &'static [Rows] = &[&["words that fall"], ENTRIES, YES, NO, DAMAGE];
+    const MET: Table = &[ROWS, &[&["words that fall"], DAMAGE]];
     const LIBRARY: Function = ours::check_lexicon;
 
     fn short(&self) -> Vec<Rc<Lexicon>> {
@@ -56,16 +56,16 @@ impl Call for CheckLexicon {
     }
 }
 
-rows! {
+rows! { ROWS:
     /// How many entries there are.
-    ENTRIES: entries(count: usize) [
+    entries(count: usize) [
         "no entries" => count == 0,
         "entries 1 to 100" => (1..=100).contains(&count),
         "entries 101 and more" => count > 100,
     ]
 
     /// What a lexicon has that is accepted.
-    YES: accepted(lexicon: &Lexicon) {
+    accepted(lexicon: &Lexicon) {
         let entries = (0..lexicon.count()).filter_map(|i| lexicon.entry(i).ok());
         let entries: Vec<Compiled> = entries.collect();
         let any = |is_met: &dyn Fn(&Compiled) -> bool| entries.iter().any(is_met);
@@ -81,7 +81,7 @@ rows! {
     ]
 
     /// What a lexicon has that is not.
-    NO: amiss(lexicon: &Lexicon) {
+    amiss(lexicon: &Lexicon) {
         let last = lexicon.count().saturating_sub(1);
         let whole_before = (0..last).all(|i| lexicon.whole(i).is_ok());
     } [

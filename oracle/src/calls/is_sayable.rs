@@ -28,7 +28,7 @@ impl Call for IsSayable {
     const SHARE_RECORDED: usize = 17;
     const ANSWERS: Rows = &["yes", "no"];
     const REFUSALS: &'static [u32] = &[1, 3];
-    const MET: &'static [Rows] = &[words::WORD, SECTIONS, START, FORWARDS, BACKWARDS];
+    const MET: Table = &[words::WORD, ROWS];
     const LIBRARY: Function = ours::is_sayable;
 
     fn short(&self) -> Vec<Input> {
@@ -131,38 +131,6 @@ fn edges() -> Vec<Machines> {
     pairs.map(|(p, s)| Machines::new([p, s], vec![])).into()
 }
 
-rows! {
-    /// What the sections have.
-    SECTIONS: of_sections(machines: &Machines) [
-        "section without cells" => [0, 1].iter().any(|side| machines.cells(*side).is_empty()),
-        "section with an odd last byte" => machines.sections.iter().any(|s| s.len() % 2 == 1),
-    ]
-
-    /// What the step on '#' leads to.
-    START: of_start(start: &Step, prefix: &[u16], suffix: &[u16]) {
-        let past = |cells: &[u16]| matches!(start, Step::To(start) if *start >= cells.len());
-    } [
-        "no step on '#'" => !matches!(start, Step::To(_)),
-        "start past the end of aswd.p" => past(prefix),
-        "start past the end of aswd.s" => past(suffix),
-    ]
-
-    /// How the letters lead on from the front.
-    FORWARDS: forwards(walk: &Walk) [
-        "aswd.p: no step, a zero ends the list" => *walk == Walk::AtZero,
-        "aswd.p: no step, the section ends the list" => *walk == Walk::AtEnd,
-        "aswd.p: no vowel in the word" => *walk == Walk::NoVowel,
-    ]
-
-    /// How they lead on from the end, if a vowel was met from the front.
-    BACKWARDS: backwards(walk: &Walk, len: usize, from: usize) [
-        "aswd.s: no step, a zero ends the list" => *walk == Walk::AtZero,
-        "aswd.s: no step, the section ends the list" => *walk == Walk::AtEnd,
-        "yes, with bytes that are never read" =>
-            matches!(walk, Walk::Vowel(to) if from + to + 2 < len),
-    ]
-}
-
 /// What the machines met, as the original goes through them.
 fn walks(input: &Input, met: &mut Met) {
     let word = input.word.to_ascii_lowercase();
@@ -180,4 +148,36 @@ fn walks(input: &Input, met: &mut Met) {
         let back = walk(&suffix, start, word.iter().rev());
         met.all(backwards(&back, word.len(), from));
     }
+}
+
+rows! { ROWS:
+    /// What the sections have.
+    of_sections(machines: &Machines) [
+        "section without cells" => [0, 1].iter().any(|side| machines.cells(*side).is_empty()),
+        "section with an odd last byte" => machines.sections.iter().any(|s| s.len() % 2 == 1),
+    ]
+
+    /// What the step on '#' leads to.
+    of_start(start: &Step, prefix: &[u16], suffix: &[u16]) {
+        let past = |cells: &[u16]| matches!(start, Step::To(start) if *start >= cells.len());
+    } [
+        "no step on '#'" => !matches!(start, Step::To(_)),
+        "start past the end of aswd.p" => past(prefix),
+        "start past the end of aswd.s" => past(suffix),
+    ]
+
+    /// How the letters lead on from the front.
+    forwards(walk: &Walk) [
+        "aswd.p: no step, a zero ends the list" => *walk == Walk::AtZero,
+        "aswd.p: no step, the section ends the list" => *walk == Walk::AtEnd,
+        "aswd.p: no vowel in the word" => *walk == Walk::NoVowel,
+    ]
+
+    /// How they lead on from the end, if a vowel was met from the front.
+    backwards(walk: &Walk, len: usize, from: usize) [
+        "aswd.s: no step, a zero ends the list" => *walk == Walk::AtZero,
+        "aswd.s: no step, the section ends the list" => *walk == Walk::AtEnd,
+        "yes, with bytes that are never read" =>
+            matches!(walk, Walk::Vowel(to) if from + to + 2 < len),
+    ]
 }

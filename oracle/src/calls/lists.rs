@@ -85,6 +85,40 @@ impl Input {
     }
 }
 
+/// The calls of lists, by their answers.
+const CALLS: Rows = &[
+    "calls in all",
+    "new_sheet: new",
+    "add_entry: new key",
+    "add_entry: known key",
+    "add_entry: refusal 1",
+    "add_entry: refusal 3",
+    "add_entry: refusal 5",
+    "add_entry: refusal 7",
+    "add_entry: refusal 8",
+    "add_entries: lines taken 0",
+    "add_entries: lines taken 1",
+    "add_entries: lines taken 2 and more",
+    "add_entries: refusal 1",
+    "add_entries: refusal 2",
+    "add_entries: refusal 3",
+    "add_entries: refusal 4",
+    "add_entries: refusal 5",
+    "add_entries: refusal 7",
+    "add_entries: refusal 8",
+    "say_word: runtime",
+    "say_word: addenda",
+    "say_word: compiled",
+    "say_word: letters",
+    "say_word: refusal 1",
+    "say_word: refusal 3",
+    "say_word: refusal 6",
+    "say_word: refusal 7",
+    "say_word: refusal 9",
+    "phone_string: at an utterance's end",
+    "refused call, then an accepted one",
+];
+
 #[derive(Default)]
 pub struct Lists {
     maker: Maker,
@@ -104,42 +138,7 @@ impl Call for Lists {
         "lists of 6 to 20 calls",
         "lists of more calls",
     ];
-    const MET: &'static [Rows] = &[
-        &[
-            "calls in all",
-            "new_sheet: new",
-            "add_entry: new key",
-            "add_entry: known key",
-            "add_entry: refusal 1",
-            "add_entry: refusal 3",
-            "add_entry: refusal 5",
-            "add_entry: refusal 7",
-            "add_entry: refusal 8",
-            "add_entries: lines taken 0",
-            "add_entries: lines taken 1",
-            "add_entries: lines taken 2 and more",
-            "add_entries: refusal 1",
-            "add_entries: refusal 2",
-            "add_entries: refusal 3",
-            "add_entries: refusal 4",
-            "add_entries: refusal 5",
-            "add_entries: refusal 7",
-            "add_entries: refusal 8",
-            "say_word: runtime",
-            "say_word: addenda",
-            "say_word: compiled",
-            "say_word: letters",
-            "say_word: refusal 1",
-            "say_word: refusal 3",
-            "say_word: refusal 6",
-            "say_word: refusal 7",
-            "say_word: refusal 9",
-            "phone_string: at an utterance's end",
-            "refused call, then an accepted one",
-        ],
-        book::UTTERANCE,
-        LENGTHS,
-    ];
+    const MET: Table = &[&[CALLS], book::ROWS, ROWS];
     const LIBRARY: Function = |_| unreachable!("a list is many calls of the library");
 
     fn short(&self) -> Vec<Input> {
@@ -221,9 +220,9 @@ fn shown(act: &Act) -> String {
     }
 }
 
-rows! {
+rows! { ROWS:
     /// How long the store and the sheet of a list are.
-    LENGTHS: lengths(input: &Input) [
+    lengths(input: &Input) [
         "sheet of 64 bytes" => input.sheet.len() == ITEM,
         "sheet of 128 bytes" => input.sheet.len() == 2 * ITEM,
         "sheet of up to 4,096 bytes" => input.sheet.len() <= 4_096,

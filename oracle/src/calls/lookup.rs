@@ -37,30 +37,20 @@ impl Call for Lookup {
     const SHARE_RECORDED: usize = 40;
     const ANSWERS: Rows = &["none", "runtime", "addenda", "compiled"];
     const REFUSALS: &'static [u32] = &[1, 2, 3, 6, 7, 9];
-    const MET: &'static [Rows] = &[
-        &[
+    const MET: Table = &[
+        &[&[
             "tag empty",
             "tag 'nil'",
             "tag of one byte",
             "tag of more bytes",
             "tag of 47 bytes",
-        ],
+            "7 before 9",
+        ]],
         words::WORD,
-        rule::RUNTIME_WAYS,
-        rule::RUNTIME,
-        rule::ADDENDA_WAYS,
-        rule::ADDENDA,
-        rule::NOT_ADDENDA,
-        rule::COMPILED,
-        rule::CHECKED,
-        rule::NOTHING,
-        rule::BESIDE,
-        rule::DAMAGED,
-        &["7 before 9"],
+        rule::ROWS,
+        rule::WAYS,
         store_edges::STORE,
-        OUTPUT_OR_NONE,
-        DAMAGE,
-        UNSOUND,
+        &[OUTPUT_OR_NONE, DAMAGE, UNSOUND],
     ];
     const LIBRARY: Function = ours::lookup;
 

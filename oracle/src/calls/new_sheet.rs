@@ -20,7 +20,7 @@ impl Call for NewSheet {
     const SHARE: usize = 2;
     const ANSWERS: Rows = &["new"];
     const REFUSALS: &'static [u32] = &[2];
-    const MET: &'static [Rows] = &[BEFORE, LENGTH];
+    const MET: Table = &[ROWS];
     const LIBRARY: Function = ours::new_sheet;
 
     fn short(&self) -> Vec<Input> {
@@ -52,9 +52,9 @@ impl Call for NewSheet {
     }
 }
 
-rows! {
+rows! { ROWS:
     /// What there is before.
-    BEFORE: before(sheet: &[u8]) [
+    before(sheet: &[u8]) [
         "sheet that is sound" => sheets::read(sheet).is_ok(),
         "sheet that is not" => sheets::read(sheet).is_err(),
         "sheet of one item" => sheet.len() < 2 * ITEM,
@@ -64,7 +64,7 @@ rows! {
     ]
 
     /// Why a length is refused.
-    LENGTH: length(len: usize) [
+    length(len: usize) [
         "refusal 2: no bytes" => len == 0,
         "refusal 2: fewer than 64 bytes" => (1..ITEM).contains(&len),
         "refusal 2: over 65,536 bytes" => len > LARGEST,

@@ -21,7 +21,7 @@ impl Call for NewStore {
     const SHARE: usize = 2;
     const ANSWERS: Rows = &["new"];
     const REFUSALS: &'static [u32] = &[2];
-    const MET: &'static [Rows] = &[BEFORE, LENGTH];
+    const MET: Table = &[ROWS];
     const LIBRARY: Function = ours::new_store;
 
     fn short(&self) -> Vec<Input> {
@@ -53,9 +53,9 @@ impl Call for NewStore {
     }
 }
 
-rows! {
+rows! { ROWS:
     /// What there is before.
-    BEFORE: before(store: &[u8]) [
+    before(store: &[u8]) [
         "store that is sound" => stores::read(store).is_ok(),
         "store that is not" => stores::read(store).is_err(),
         "store of one slot" => store.len() == SLOT,
@@ -64,7 +64,7 @@ rows! {
     ]
 
     /// Why a length is refused.
-    LENGTH: length(len: usize) [
+    length(len: usize) [
         "refusal 2: over 65,536 bytes" => len % SLOT == 0 && len > LARGEST,
         "refusal 2: no multiple of 512" => len % SLOT != 0,
         "refusal 2: no bytes" => len == 0,

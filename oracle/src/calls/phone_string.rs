@@ -24,13 +24,11 @@ impl Call for PhoneString {
     const SHARE_RECORDED: usize = 12;
     const ANSWERS: Rows = &["no bytes", "bytes 1 to 20", "bytes 21 and more"];
     const REFUSALS: &'static [u32] = &[2, 9];
-    const MET: &'static [Rows] = &[
+    const MET: Table = &[
         cells::PHONES,
-        FEATURES,
+        ROWS,
         sheet_edges::SHEET,
-        OUTPUT_OR_NONE,
-        TOO_SHORT,
-        UNSOUND,
+        &[OUTPUT_OR_NONE, TOO_SHORT, UNSOUND],
     ];
     const LIBRARY: Function = ours::phone_string;
 
@@ -137,9 +135,9 @@ fn input(sheet: Vec<u8>, size: Size) -> Input {
     }
 }
 
-rows! {
+rows! { ROWS:
     /// What the words and the phones of a sheet have.
-    FEATURES: features(words: &[Placed], phones: &[&[u8]]) [
+    features(words: &[Placed], phones: &[&[u8]]) [
         "no phones" => phones.is_empty(),
         "one phone" => phones.len() == 1,
         "over 96 phones" => phones.len() > 96,

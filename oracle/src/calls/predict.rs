@@ -34,14 +34,12 @@ impl Call for Predict {
         "phones 48 to 94",
     ];
     const REFUSALS: &'static [u32] = &[1, 3, 6, 9];
-    const MET: &'static [Rows] = &[
+    const MET: Table = &[
         words::WORD,
-        STOP,
-        LETTER,
-        WALKED,
-        &["damage that is not walked", "phone with a stress"],
+        ROWS,
+        &[&["damage that is not walked", "phone with a stress"]],
         cells::PHONES,
-        OUTPUT,
+        &[OUTPUT],
     ];
     const LIBRARY: Function = ours::predict;
 
@@ -138,38 +136,6 @@ fn input(trees: &Rc<Trees>, word: impl Into<Vec<u8>>, size: Size) -> Input {
     }
 }
 
-rows! {
-    /// Whether the reading stops before the word's front.
-    STOP: stops(first: usize) [
-        "'#' that stops" => first > 0,
-    ]
-
-    /// What a byte of a word has, as it is read.
-    LETTER: of_byte(byte: u8, at: usize, first: usize) {
-        let letter = byte.is_ascii_lowercase();
-    } [
-        "letter walked" => letter,
-        "byte that is no letter" => !letter,
-        "window that reaches over '#'" => letter && first > 1 && at < first + 3,
-    ]
-
-    /// What a letter's walk met, and its leaf.
-    WALKED: walked(walk: &Walk, nodes: usize, name: &[u8]) {
-        let is_epsilon = name == b"epsilon";
-        let is_split = !is_epsilon && name.contains(&b'-');
-    } [
-        "question that matches" => walk.matched,
-        "question that does not match" => walk.other,
-        "question 8 to 254" => walk.never,
-        "leaf epsilon" => is_epsilon,
-        "leaf split at '-'" => is_split,
-        "leaf whole" => !is_epsilon && !is_split,
-        "leaf number 255" => walk.leaf == Some(255),
-        "walk over every node" => walk.nodes == nodes,
-        "walk over 65,536 nodes" => walk.nodes == 65_536,
-    ]
-}
-
 /// The refusal that 01 gives before an output matters, if it gives one. Tells what the walks met.
 pub fn refusal(trees: &Trees, given: &[u8], met: &mut Met) -> Result<(), u32> {
     met.refuse(1, trees.names.is_none(), || None)?;
@@ -223,4 +189,36 @@ fn plainer(word: &[u8]) -> Vec<Vec<u8>> {
     let others = (0..word.len()).filter(|i| word[*i] != b'a');
     let plain = |i: usize| [&word[..i], b"a", &word[i + 1..]].concat();
     others.map(plain).collect()
+}
+
+rows! { ROWS:
+    /// Whether the reading stops before the word's front.
+    stops(first: usize) [
+        "'#' that stops" => first > 0,
+    ]
+
+    /// What a byte of a word has, as it is read.
+    of_byte(byte: u8, at: usize, first: usize) {
+        let letter = byte.is_ascii_lowercase();
+    } [
+        "letter walked" => letter,
+        "byte that is no letter" => !letter,
+        "window that reaches over '#'" => letter && first > 1 && at < first + 3,
+    ]
+
+    /// What a letter's walk met, and its leaf.
+    walked(walk: &Walk, nodes: usize, name: &[u8]) {
+        let is_epsilon = name == b"epsilon";
+        let is_split = !is_epsilon && name.contains(&b'-');
+    } [
+        "question that matches" => walk.matched,
+        "question that does not match" => walk.other,
+        "question 8 to 254" => walk.never,
+        "leaf epsilon" => is_epsilon,
+        "leaf split at '-'" => is_split,
+        "leaf whole" => !is_epsilon && !is_split,
+        "leaf number 255" => walk.leaf == Some(255),
+        "walk over every node" => walk.nodes == nodes,
+        "walk over 65,536 nodes" => walk.nodes == 65_536,
+    ]
 }

@@ -44,28 +44,23 @@ impl Call for SayWord {
     const SHARE_RECORDED: usize = 40;
     const ANSWERS: Rows = &["runtime", "addenda", "compiled", "letters"];
     const REFUSALS: &'static [u32] = &[1, 2, 3, 6, 7, 9];
-    const MET: &'static [Rows] = &[
-        rule::SPOKEN,
-        rule::DIGITS,
+    const MET: Table = &[
+        rule::ROWS,
         cells::PHONES,
-        &["tag empty", "tag 'nil'", "tag of more bytes"],
         words::WORD,
-        rule::LETTERS,
-        rule::ADDED,
-        &[
+        &[&[
+            "tag empty",
+            "tag 'nil'",
+            "tag of more bytes",
             "sheet without words",
             "sheet in another order than its items",
             "sheet of 65,536 bytes",
             "bytes behind the last whole item",
             "anything in unused items",
-        ],
-        rule::BY_1,
-        rule::BY_2,
-        rule::BY_3,
-        &["6: compiled entry", "6: letter tree"],
-        rule::BY_7_OR_9,
-        sheets::UNSOUND,
-        stores::UNSOUND,
+            "6: compiled entry",
+            "6: letter tree",
+        ]],
+        &[sheets::UNSOUND, stores::UNSOUND],
     ];
     const LIBRARY: Function = ours::say_word;
 

@@ -13,7 +13,7 @@ impl Call for SplitStress {
     const SHARE: usize = 5;
     const SHARE_RECORDED: usize = 6;
     const ANSWERS: Rows = &["stress 0", "stress 1", "no stress"];
-    const MET: &'static [Rows] = &[BARE];
+    const MET: Table = &[ROWS];
     const LIBRARY: Function = ours::split_stress;
 
     fn short(&self) -> Vec<Vec<u8>> {
@@ -51,9 +51,9 @@ impl Call for SplitStress {
     }
 }
 
-rows! {
+rows! { ROWS:
     /// What a phone has behind whose stress was taken off.
-    BARE: of_bare(bare: &str) [
+    of_bare(bare: &str) [
         "bare phone of 0 bytes" => bare.is_empty(),
         "bare phone that ends in a stress" => bare.ends_with(['0', '1']),
     ]

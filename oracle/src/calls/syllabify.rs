@@ -31,27 +31,7 @@ impl Call for Syllabify {
         "7 syllables and more",
     ];
     const REFUSALS: &'static [u32] = &[3, 7, 9];
-    const MET: &'static [Rows] = &[
-        &[
-            "place: the last",
-            "place: next is pau",
-            "place: no vowel later",
-            "place: no vowel yet",
-            "place: next is a vowel",
-            "place: next is ng",
-            "place: vowel second",
-            "place: vowel third, onset",
-            "place: vowel third, no onset",
-            "place: vowel fourth, onset",
-            "place: vowel fourth, no onset",
-            "place: vowel later still",
-            "onset of phones that are in no table",
-        ],
-        cells::PHONES,
-        FEATURES,
-        cells::UNREAD,
-        OUTPUT,
-    ];
+    const MET: Table = &[&[PLACES, OUTPUT], cells::PHONES, ROWS, cells::UNREAD];
     const LIBRARY: Function = ours::syllabify;
 
     fn short(&self) -> Vec<Input> {
@@ -262,6 +242,23 @@ fn edges() -> Vec<Input> {
     inputs
 }
 
+/// What decides a place, and whether an onset is an odd one.
+const PLACES: Rows = &[
+    "place: the last",
+    "place: next is pau",
+    "place: no vowel later",
+    "place: no vowel yet",
+    "place: next is a vowel",
+    "place: next is ng",
+    "place: vowel second",
+    "place: vowel third, onset",
+    "place: vowel third, no onset",
+    "place: vowel fourth, onset",
+    "place: vowel fourth, no onset",
+    "place: vowel later still",
+    "onset of phones that are in no table",
+];
+
 /// The rule of 01 that decides each place, by the original's own marks.
 fn places(phones: &[&str], marks: &[bool]) -> Vec<&'static str> {
     let vowel: Vec<bool> = phones.iter().map(|p| phoneset::is_vowel(p)).collect();
@@ -296,9 +293,9 @@ fn places(phones: &[&str], marks: &[bool]) -> Vec<&'static str> {
     rows
 }
 
-rows! {
+rows! { ROWS:
     /// What the phones of an accepted list have.
-    FEATURES: features(phones: &[&str]) {
+    features(phones: &[&str]) {
         let stressed = |phone: &&str| {
             let (bare, stress) = lexicon::split_stress(phone);
             stress.is_some() && phoneset::is_vowel(bare)

@@ -14,16 +14,6 @@ pub fn refusal(input: &Input, met: &mut Met) -> Result<(), u32> {
     met.refuse(3, !input.text.is_ascii(), || of_high(&input.text))
 }
 
-rows! {
-    /// What a text with a high byte has.
-    pub HIGH: of_high(text: &[u8]) {
-        let first = text.split(|b| *b == b'\n').next().unwrap_or_default();
-    } [
-        "3: high byte, line 0" => true,
-        "3: high byte behind a faulty line" => first.is_ascii() && is_malformed(first),
-    ]
-}
-
 /// Whether a line names no entry, though it should.
 fn is_malformed(line: &[u8]) -> bool {
     matches!(lines::read(line), Line::NoColon | Line::NoWord)
@@ -85,29 +75,6 @@ pub fn taken(input: &Input, met: &mut Met) -> Taken {
     taken
 }
 
-rows! {
-    /// What a line has that is malformed.
-    pub BY_4: by_4(line: &[u8], no_colon: bool) [
-        "4: no colon" => no_colon,
-        "4: a colon behind '#' alone" => no_colon && line.contains(&b':'),
-        "4: no word before the colon" => !no_colon,
-        "4: byte 28 alone" => no_colon && line.trim_ascii() == b"\x1c",
-    ]
-
-    /// When a store became full.
-    pub BY_8: of_full(before: bool) [
-        "8: full before the text" => before,
-        "8: full by the lines before" => !before,
-    ]
-
-    /// What the key of a line met that is taken.
-    pub KEY: of_key(key: &Key, taken: &[Key], before: &[Key], takes_last: bool) [
-        "key of an earlier line" => taken.contains(key),
-        "key of the store" => before.contains(key),
-        "new: takes the last unused slot" => takes_last,
-    ]
-}
-
 fn is_long(text: &[u8]) -> bool {
     text.len() > words::LONGEST
 }
@@ -128,22 +95,6 @@ fn faulty(lexicon: &Lexicon, fields: &Fields, is_full: bool, met: &mut Met) -> O
         return Some(7);
     }
     is_full.then_some(8)
-}
-
-rows! {
-    /// What a line has that is refused by 3.
-    pub BY_3: by_3(fields: &Fields) [
-        "3: long word" => is_long(fields.word),
-        "3: long tag" => is_long(fields.tag),
-    ]
-
-    /// What an unknown phone has.
-    pub BY_5: by_5(phone: &[u8]) [
-        "5: phone in no table" => phone.len() < 16,
-        "5: phone over 15 bytes" => phone.len() > 15,
-        "5: colon in a phone" => phone.contains(&b':'),
-        "5: byte 28 in a phone" => phone.contains(&28),
-    ]
 }
 
 /// The store after the lines that 01 takes, by the original's list. It must count as many lines, or stop at
@@ -204,9 +155,52 @@ pub fn features(input: &Input, taken: &Taken, met: &mut Met) {
     }
 }
 
-rows! {
+rows! { pub ROWS:
+    /// What a text with a high byte has.
+    of_high(text: &[u8]) {
+        let first = text.split(|b| *b == b'\n').next().unwrap_or_default();
+    } [
+        "3: high byte, line 0" => true,
+        "3: high byte behind a faulty line" => first.is_ascii() && is_malformed(first),
+    ]
+
+    /// What a line has that is malformed.
+    by_4(line: &[u8], no_colon: bool) [
+        "4: no colon" => no_colon,
+        "4: a colon behind '#' alone" => no_colon && line.contains(&b':'),
+        "4: no word before the colon" => !no_colon,
+        "4: byte 28 alone" => no_colon && line.trim_ascii() == b"\x1c",
+    ]
+
+    /// When a store became full.
+    of_full(before: bool) [
+        "8: full before the text" => before,
+        "8: full by the lines before" => !before,
+    ]
+
+    /// What the key of a line met that is taken.
+    of_key(key: &Key, taken: &[Key], before: &[Key], takes_last: bool) [
+        "key of an earlier line" => taken.contains(key),
+        "key of the store" => before.contains(key),
+        "new: takes the last unused slot" => takes_last,
+    ]
+
+    /// What a line has that is refused by 3.
+    by_3(fields: &Fields) [
+        "3: long word" => is_long(fields.word),
+        "3: long tag" => is_long(fields.tag),
+    ]
+
+    /// What an unknown phone has.
+    by_5(phone: &[u8]) [
+        "5: phone in no table" => phone.len() < 16,
+        "5: phone over 15 bytes" => phone.len() > 15,
+        "5: colon in a phone" => phone.contains(&b':'),
+        "5: byte 28 in a phone" => phone.contains(&28),
+    ]
+
     /// What a text has that stops.
-    pub STOP: of_stop(input: &Input, taken: &Taken, fault: &Fault) {
+    of_stop(input: &Input, taken: &Taken, fault: &Fault) {
         let mut later = input.text[fault.at..].split(|b| *b == b'\n').skip(1);
     } [
         "stop: at line 1" => fault.line == 1,
@@ -215,13 +209,13 @@ rows! {
     ]
 
     /// What a text has as a whole.
-    pub TEXT: of_text(input: &Input, lacks_end: bool) [
+    of_text(input: &Input, lacks_end: bool) [
         "empty text" => input.text.is_empty(),
         "last line without its end" => lacks_end,
     ]
 
     /// What a line has that is not faulty.
-    pub LINE: of_line(line: &[u8], is_entry: bool) {
+    of_line(line: &[u8], is_entry: bool) {
         let comment = line.contains(&b'#');
     } [
         "blank line" => !is_entry && !comment,
@@ -231,7 +225,7 @@ rows! {
     ]
 
     /// What the line of an entry has.
-    pub FIELDS: of_fields(line: &[u8], fields: &Fields) {
+    of_fields(line: &[u8], fields: &Fields) {
         let trimmed = line.trim_ascii();
         let Fields { word, tag, phones, .. } = fields;
         let quoted = fields.first.len() > word.len();

@@ -27,45 +27,6 @@ pub fn refusal(input: &Input, met: &mut Met) -> Result<(), u32> {
     met.refuse(8, lacks_room, || by_8(entries.len()))
 }
 
-rows! {
-    /// What a word, a tag or a phone has that is refused by 3.
-    pub BY_3: by_3(given: &Given) {
-        let Given { wanted, phones } = given;
-        let cells = &phones.cells;
-        let (front, behind) = cells.split_at(cells.len().min(MOST_PHONES));
-    } [
-        "3: long word" => wanted.word.len() > words::LONGEST,
-        "3: word with a high byte" => !wanted.word.is_ascii(),
-        "3: long tag" => wanted.tag.len() > words::LONGEST,
-        "3: tag with a high byte" => !wanted.tag.is_ascii(),
-        "3: phone with a high byte" => cells.iter().any(is_high),
-        "3: cell over 15 with a high byte" => cells.iter().any(|cell| is_over(cell) && is_high(cell)),
-        "3: in a cell past the 24th" => !front.iter().any(is_high) && behind.iter().any(is_high),
-    ]
-
-    /// What phones have that are refused by 5.
-    pub BY_5: by_5(phones: &List, past_the_24th: bool) {
-        let over = phones.cells.iter().any(is_over);
-    } [
-        "5: phone in no table" => !over,
-        "5: cell over 15" => over,
-        "5: in a cell past the 24th" => past_the_24th,
-    ]
-
-    /// What an add has that is refused by 7.
-    pub BY_7: by_7(count: usize, lacks_room: bool) [
-        "7: 25 phones" => count == MOST_PHONES + 1,
-        "7: over 96 phones" => count > 96,
-        "7: store without an unused slot" => lacks_room,
-    ]
-
-    /// What a full store has.
-    pub BY_8: by_8(entries: usize) [
-        "8: store of one slot" => entries == 0,
-        "8: 127 entries" => entries == 127,
-    ]
-}
-
 pub fn texts(phones: &List) -> Vec<&[u8]> {
     phones.cells.iter().map(text).collect()
 }
@@ -119,9 +80,46 @@ pub fn refused_by_the_original(input: &Input) -> Result<(), String> {
     Ok(())
 }
 
-rows! {
+rows! { pub ROWS:
+    /// What a word, a tag or a phone has that is refused by 3.
+    by_3(given: &Given) {
+        let Given { wanted, phones } = given;
+        let cells = &phones.cells;
+        let (front, behind) = cells.split_at(cells.len().min(MOST_PHONES));
+    } [
+        "3: long word" => wanted.word.len() > words::LONGEST,
+        "3: word with a high byte" => !wanted.word.is_ascii(),
+        "3: long tag" => wanted.tag.len() > words::LONGEST,
+        "3: tag with a high byte" => !wanted.tag.is_ascii(),
+        "3: phone with a high byte" => cells.iter().any(is_high),
+        "3: cell over 15 with a high byte" => cells.iter().any(|cell| is_over(cell) && is_high(cell)),
+        "3: in a cell past the 24th" => !front.iter().any(is_high) && behind.iter().any(is_high),
+    ]
+
+    /// What phones have that are refused by 5.
+    by_5(phones: &List, past_the_24th: bool) {
+        let over = phones.cells.iter().any(is_over);
+    } [
+        "5: phone in no table" => !over,
+        "5: cell over 15" => over,
+        "5: in a cell past the 24th" => past_the_24th,
+    ]
+
+    /// What an add has that is refused by 7.
+    by_7(count: usize, lacks_room: bool) [
+        "7: 25 phones" => count == MOST_PHONES + 1,
+        "7: over 96 phones" => count > 96,
+        "7: store without an unused slot" => lacks_room,
+    ]
+
+    /// What a full store has.
+    by_8(entries: usize) [
+        "8: store of one slot" => entries == 0,
+        "8: 127 entries" => entries == 127,
+    ]
+
     /// What an add of a new key met, which made so many entries.
-    pub NEW: of_new(scene: &Scene, word: &[u8], entries: usize) {
+    of_new(scene: &Scene, word: &[u8], entries: usize) {
         let before = scene.entries();
         let slot = &scene.store[SLOT * entries..][..SLOT];
     } [
@@ -133,7 +131,7 @@ rows! {
     ]
 
     /// What an add met whose key was known at this place of the list.
-    pub KNOWN: of_known(scene: &Scene, at: usize, given: &Given, store: &[u8]) {
+    of_known(scene: &Scene, at: usize, given: &Given, store: &[u8]) {
         let before = scene.entries();
         let last = before.len() - 1;
         let (count, was) = (given.phones.cells.len(), before[at].entry.phones.len());
@@ -149,7 +147,7 @@ rows! {
     ]
 
     /// What the phones of an accepted add have.
-    pub LIST: of_list(lexicon: &Lexicon, phones: &List) {
+    of_list(lexicon: &Lexicon, phones: &List) {
         let names = lexicon.names.as_deref().unwrap_or_default();
         let of_table = |phone: &[u8]| names.iter().any(|name| name == phone);
         let of_table_alone = |phone: &[u8]| of_table(phone) && !is_of_the_50(phone);

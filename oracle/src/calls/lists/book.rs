@@ -116,9 +116,9 @@ impl Book {
     }
 }
 
-rows! {
+rows! { pub ROWS:
     /// What the words of a sheet met.
-    pub UTTERANCE: utterance(book: &Book) {
+    utterance(book: &Book) {
         let said: Vec<_> = book.wanted.iter().zip(&book.said).collect();
         let otherwise = |i: usize| {
             let mut later = said[i + 1..].iter();

@@ -2,7 +2,7 @@
 
 use super::book::Book;
 use super::log::Log;
-use super::{Act, Input, Lists, Step};
+use super::{Act, Input, Lists, Step, CALLS};
 use crate::calls::{add_entries, add_entry, new_sheet, new_store, phone_string, say_word};
 use crate::prelude::*;
 use crate::sheets::Reading;
@@ -241,7 +241,6 @@ impl Side for Library {
 /// The row of the table for a call of a list.
 fn row(call: &str, answer: &str) -> &'static str {
     let name = format!("{call}: {answer}");
-    let rows = Lists::MET.concat();
-    let found = rows.into_iter().find(|row| *row == name);
+    let found = CALLS.iter().find(|row| **row == name);
     found.unwrap_or_else(|| panic!("the table has no row {name}"))
 }

@@ -43,15 +43,19 @@ impl Sought<'_> {
     }
 }
 
-pub const RUNTIME_WAYS: &[&str] = &[
-    "runtime: tags agree",
-    "runtime: wanted '0' takes any",
-    "runtime: entry '0' fits any",
-];
-pub const ADDENDA_WAYS: &[&str] = &[
-    "addenda: tags agree",
-    "addenda: wanted '0' takes any",
-    "addenda: row '0' fits any",
+/// How a runtime entry fits, how an addendum does, and where a damaged entry is met.
+pub const WAYS: &[Rows] = &[
+    &[
+        "runtime: tags agree",
+        "runtime: wanted '0' takes any",
+        "runtime: entry '0' fits any",
+    ],
+    &[
+        "addenda: tags agree",
+        "addenda: wanted '0' takes any",
+        "addenda: row '0' fits any",
+    ],
+    &["6: in the halving", "6: in the run or behind it"],
 ];
 
 /// What 01 says before an answer's length matters. Tells what was met on the way.
@@ -76,11 +80,11 @@ pub fn rule(scene: &Scene, wanted: &Wanted, met: &mut Met) -> Result<Found, u32>
     let hides = matches!(search, Search::Entry { .. });
     let at = same.iter().position(|entry| sought.fits(entry.tag));
     let found = if let Some(at) = at {
-        met.row(sought.how(same[at].tag, RUNTIME_WAYS));
+        met.row(sought.how(same[at].tag, WAYS[0]));
         met.all(runtime(&sought, lexicon, &same, at, addendum, hides));
         Some((Source::Runtime, same[at].phones.clone()))
     } else if let Some((tag, _, phones)) = addendum {
-        met.row(sought.how(tag, ADDENDA_WAYS));
+        met.row(sought.how(tag, WAYS[1]));
         met.all(of_addendum(phones, hides));
         let phones = phones.iter().map(|phone| (*phone).into()).collect();
         Some((Source::Addenda, phones))
@@ -99,9 +103,37 @@ fn addenda() -> impl Iterator<Item = Addendum> {
     rows.map(|(tag, word, phones)| (*tag as u8, word.as_bytes(), *phones))
 }
 
-rows! {
+/// What the compiled entries answer, and what they met.
+fn compiled(
+    sought: &Sought,
+    lexicon: &Lexicon,
+    search: Search,
+    met: &mut Met,
+) -> Result<Found, u32> {
+    match search {
+        Search::Damaged { why, in_run } => {
+            let place = WAYS[2][usize::from(in_run)];
+            met.refuse(6, true, || [why, place]).map(|()| None)
+        }
+        Search::Nothing(at) => {
+            met.all(nothing(sought.word, lexicon, at));
+            Ok(None)
+        }
+        Search::Entry {
+            first,
+            chosen,
+            exact,
+        } => {
+            met.all(chosen_entry(sought, lexicon, first, chosen, exact));
+            met.all(checked(sought, lexicon, chosen));
+            Ok(Some((Source::Compiled, lexicon.phones(chosen))))
+        }
+    }
+}
+
+rows! { pub ROWS:
     /// What a runtime entry met that is found among those of its word.
-    pub RUNTIME: runtime(
+    runtime(
         sought: &Sought,
         lexicon: &Lexicon,
         same: &[&Entry],
@@ -123,13 +155,13 @@ rows! {
     ]
 
     /// What a row of the addenda met that is found.
-    pub ADDENDA: of_addendum(phones: &[&str], hides_compiled: bool) [
+    of_addendum(phones: &[&str], hides_compiled: bool) [
         "addenda: no phones" => phones.is_empty(),
         "addenda: hides a compiled entry" => hides_compiled,
     ]
 
     /// What a word met that the addenda do not answer.
-    pub NOT_ADDENDA: passed_addenda(word: &[u8]) {
+    passed_addenda(word: &[u8]) {
         let other = |row: Addendum| row.1 != word && row.1.eq_ignore_ascii_case(word);
     } [
         "addenda: tag does not fit" => addenda().any(|row| row.1 == word),
@@ -137,46 +169,13 @@ rows! {
     ]
 
     /// What was passed or not read.
-    pub BESIDE: beside(passed_runtime: bool, lexicon: &Lexicon) [
+    beside(passed_runtime: bool, lexicon: &Lexicon) [
         "runtime: none fits, further on found" => passed_runtime,
         "damage that is not read" => lexicon.has_damage,
     ]
-}
 
-/// Where a damaged entry is met.
-pub const DAMAGED: &[&str] = &["6: in the halving", "6: in the run or behind it"];
-
-/// What the compiled entries answer, and what they met.
-fn compiled(
-    sought: &Sought,
-    lexicon: &Lexicon,
-    search: Search,
-    met: &mut Met,
-) -> Result<Found, u32> {
-    match search {
-        Search::Damaged { why, in_run } => {
-            let place = DAMAGED[usize::from(in_run)];
-            met.refuse(6, true, || [why, place]).map(|()| None)
-        }
-        Search::Nothing(at) => {
-            met.all(nothing(sought.word, lexicon, at));
-            Ok(None)
-        }
-        Search::Entry {
-            first,
-            chosen,
-            exact,
-        } => {
-            met.all(chosen_entry(sought, lexicon, first, chosen, exact));
-            met.all(checked(sought, lexicon, chosen));
-            Ok(Some((Source::Compiled, lexicon.phones(chosen))))
-        }
-    }
-}
-
-rows! {
     /// What a word met that has no compiled entry at the place where the search ends.
-    pub NOTHING: nothing(word: &[u8], lexicon: &Lexicon, at: usize) {
+    nothing(word: &[u8], lexicon: &Lexicon, at: usize) {
         let count = lexicon.count();
         let there = |i| lexicon.entry(i).is_ok_and(|entry| entry.word == word);
     } [
@@ -187,7 +186,7 @@ rows! {
     ]
 
     /// What a compiled entry met that was chosen from the run of its word.
-    pub COMPILED: chosen_entry(
+    chosen_entry(
         sought: &Sought,
         lexicon: &Lexicon,
         first: usize,
@@ -218,7 +217,7 @@ rows! {
     ]
 
     /// What the lexicon of a chosen entry is. In a checked one the entry is that of 01's direct rule.
-    pub CHECKED: checked(sought: &Sought, lexicon: &Lexicon, chosen: usize) {
+    checked(sought: &Sought, lexicon: &Lexicon, chosen: usize) {
         // a lexicon of thousands would take its time here
         let check = (lexicon.count() <= 100).then(|| lexicon.check());
         let is_direct = || lexicon.direct(sought.word, sought.tag) == Some(chosen);

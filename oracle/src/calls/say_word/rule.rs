@@ -68,9 +68,9 @@ pub fn origin(input: &Input, met: &mut Met) -> Result<Origin, u32> {
     })
 }
 
-rows! {
+rows! { pub ROWS:
     /// Which sections are refused by 1, by what lookup says without the letter trees.
-    pub BY_1: by_1(found: &Result<lookup::Found, u32>) {
+    by_1(found: &Result<lookup::Found, u32>) {
         let lexicon = matches!(found, Err(1));
         let has = matches!(found, Ok(Some(_)));
     } [
@@ -80,20 +80,20 @@ rows! {
     ]
 
     /// What is refused by 2.
-    pub BY_2: by_2(store: bool, sheet: bool) [
+    by_2(store: bool, sheet: bool) [
         "2: the store" => store && !sheet,
         "2: the sheet" => !store && sheet,
         "2: both" => store && sheet,
     ]
 
     /// What is refused by 3.
-    pub BY_3: by_3(word: bool) [
+    by_3(word: bool) [
         "3: the word" => word,
         "3: the tag" => !word,
     ]
 
     /// What a word has that is said by its letters.
-    pub LETTERS: by_letters(input: &Input) {
+    by_letters(input: &Input) {
         let Input { scene, trees, wanted, .. } = input;
         let word = &wanted.word;
         let other = |entry: Compiled| entry.word != word && entry.word.eq_ignore_ascii_case(word);
@@ -105,7 +105,7 @@ rows! {
     ]
 
     /// What a word met that is refused by 7 or 9.
-    pub BY_7_OR_9: by_7_or_9(input: &Input, word: &Word, unused: usize) {
+    by_7_or_9(input: &Input, word: &Word, unused: usize) {
         let phones = word.phones().count();
         let (long, need) = (phones > lookup::LONGEST, word.items());
         let one_too_few = !long && need == unused + 1;
@@ -119,7 +119,7 @@ rows! {
     ]
 
     /// What the phones and the syllables of an accepted word have.
-    pub SPOKEN: spoken(origin: &Origin, word: &Word) {
+    spoken(origin: &Origin, word: &Word) {
         let bare = origin.bare();
         let syllables = &word.syllables;
         let is_vowel = |phone: &Vec<u8>| phoneset::is_vowel(ascii(phone));
@@ -141,7 +141,7 @@ rows! {
     ]
 
     /// What the digits of an accepted word have.
-    pub DIGITS: digits(origin: &Origin, word: &Word) {
+    digits(origin: &Origin, word: &Word) {
         let split: Vec<(&[u8], Option<u8>)> = origin.phones.iter().map(|p| split(p)).collect();
         // the digits of each syllable
         let mut rest = &split[..];
@@ -169,7 +169,7 @@ rows! {
     ]
 
     /// What an accepted word met on its sheet.
-    pub ADDED: added(input: &Input, word: &Word, before: &[Placed]) {
+    added(input: &Input, word: &Word, before: &[Placed]) {
         let used = sheets::used(before) + word.items();
         let silent = before.iter().all(|placed| placed.word.syllables.is_empty());
         let has_phones = !word.syllables.is_empty();
