@@ -80,6 +80,7 @@ impl<'a> Part<'a> {
         }
     }
 
+    /// An output, which is the first thing that its call writes.
     pub fn output(form: Form, room: Room) -> Part<'a> {
         Part {
             used: Use::Output(room),
