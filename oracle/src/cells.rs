@@ -50,6 +50,10 @@ impl List {
         }
     }
 
+    pub fn texts(&self) -> Vec<&[u8]> {
+        self.cells.iter().map(text).collect()
+    }
+
     pub fn part(&self) -> Part<'static> {
         let bytes = [self.cells.concat(), self.rest.clone()].concat();
         Part::read("the phones", Form::PhoneList, bytes)

@@ -93,41 +93,45 @@ fn phone_table(table: &[u8]) -> String {
     or_dot(text + &pieces(rest))
 }
 
-/// A store: slot by slot up to the last that is used, with its phones as cells; then the bytes behind.
+/// A store: slot by slot, with its phones as cells.
 pub fn store(store: &[u8]) -> String {
     let used = store.get(4..6).map_or(0, number);
-    let (front, behind) = store.split_at((SLOT * (used + 1)).min(store.len()));
-    let mut text = String::new();
-    for (i, slot) in front.chunks(SLOT).enumerate() {
+    records(store, SLOT, used, |i, slot| {
         // the phones stand from 64 on, their count at 51
         let count = slot.get(51).map_or(0, |count| usize::from(*count));
-        if i == 0 || slot.len() < SLOT || count == 0 || count > MOST_PHONES {
-            text += &pieces(slot);
-            continue;
+        match i > 0 && slot.len() == SLOT && (1..=MOST_PHONES).contains(&count) {
+            true => pieces(&slot[..64]) + &cells_of(&slot[64..], count),
+            false => pieces(slot),
         }
-        text += &pieces(&slot[..64]);
-        text += &cells_of(&slot[64..], count);
-    }
-    or_dot(text + &pieces(behind))
+    })
 }
 
-/// A sheet: item by item up to the last that is used, with texts as such; then the bytes behind.
+/// A sheet: item by item, with texts as such.
 pub fn sheet(sheet: &[u8]) -> String {
     let used = sheet.get(8..10).map_or(0, number);
-    let (front, behind) = sheet.split_at((ITEM * (used + 1)).min(sheet.len()));
-    let mut text = String::new();
-    for item in front.chunks(ITEM) {
+    records(sheet, ITEM, used, |_, item| {
         // a text's length stands at 16, the text behind it
         let len = item.get(16).map_or(0, |len| usize::from(*len));
         match item.get(17..17 + len).and_then(|name| plain(name, b'>')) {
             Some(name) => {
-                text += &pieces(&item[..16]);
-                text += &format!("<{name}>");
-                text += &pieces(&item[17 + len..]);
+                let (front, behind) = (pieces(&item[..16]), pieces(&item[17 + len..]));
+                format!("{front}<{name}>{behind}")
             }
-            None => text += &pieces(item),
+            None => pieces(item),
         }
-    }
+    })
+}
+
+/// Records one by one, up to the last that is used; then the bytes behind.
+fn records(
+    bytes: &[u8],
+    size: usize,
+    used: usize,
+    shown: impl Fn(usize, &[u8]) -> String,
+) -> String {
+    let (front, behind) = bytes.split_at((size * (used + 1)).min(bytes.len()));
+    let records = front.chunks(size).enumerate();
+    let text: String = records.map(|(i, record)| shown(i, record)).collect();
     or_dot(text + &pieces(behind))
 }
 

@@ -15,12 +15,20 @@ pub struct Scene {
     pub entries: Result<Vec<Placed>, &'static str>,
 }
 
-/// An entry to be added, its word and tag as they are handed in.
+/// An entry to be added: its word, its tag and its phones, as they are handed in.
 #[derive(Clone)]
 pub struct Add {
-    pub word: Vec<u8>,
-    pub tag: Vec<u8>,
-    pub phones: Vec<Vec<u8>>,
+    pub wanted: Wanted,
+    pub phones: List,
+}
+
+smaller!(Add: wanted, phones);
+
+impl Add {
+    pub fn parts(&self) -> Vec<Part<'_>> {
+        let wanted = self.wanted.parts().into_iter();
+        wanted.chain([self.phones.part()]).collect()
+    }
 }
 
 /// The word and the tag of an entry.
@@ -163,16 +171,17 @@ impl Scene {
         let mut known = self.keys();
         let (_, list) = self.changed(|lexicon| {
             for add in adds {
-                let key = key(&add.word, &add.tag);
+                let Wanted { word, tag } = &add.wanted;
+                let key = key(word, tag);
                 if !known.contains(&key) {
                     if known.len() == stores::room(&self.store) {
                         continue;
                     }
                     known.push(key.clone());
                 }
-                let phones: Vec<&str> = add.phones.iter().map(|p| ascii(p)).collect();
+                let phones: Vec<&str> = add.phones.texts().into_iter().map(ascii).collect();
                 lexicon
-                    .add_entry(ascii(&add.word), Some(ascii(&add.tag)), &phones)
+                    .add_entry(ascii(word), Some(ascii(tag)), &phones)
                     .expect("the phones are known");
                 keys.push(key);
             }

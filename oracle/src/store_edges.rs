@@ -5,10 +5,10 @@ use crate::stores::{Placed, LARGEST};
 
 /// An entry to be added, its phones parted by blanks.
 pub fn add(word: &str, tag: &str, phones: &str) -> Add {
+    let phones: Vec<&str> = phones.split_whitespace().collect();
     Add {
-        word: word.into(),
-        tag: tag.into(),
-        phones: phones.split_whitespace().map(|p| p.into()).collect(),
+        wanted: Wanted::new(word, tag),
+        phones: List::of(&phones),
     }
 }
 
@@ -75,24 +75,18 @@ pub fn limits() -> Vec<Vec<u8>> {
     all.push(good[..2 * SLOT].to_vec());
     all.push(good[..SLOT].to_vec());
     let full = |count: usize, slots: usize| {
-        let adds: Vec<Add> = (0..count)
-            .map(|i| add(&format!("w{i}"), "", "k ae1 t"))
-            .map(|add| Add {
-                phones: vec![b"k".to_vec(); add.word.len() % 4],
-                ..add
-            })
-            .collect();
+        let made = |i: usize| {
+            let word = format!("w{i}");
+            add(&word, "", &"k ".repeat(word.len() % 4))
+        };
+        let adds: Vec<Add> = (0..count).map(made).collect();
         grown(slots, 0x5a, &adds)
     };
     all.push(full(127, 128));
     all.push(full(126, 128));
     all.push(full(2, 3));
     // longest texts
-    let longest = Add {
-        word: vec![b'w'; 47],
-        tag: vec![b't'; 47],
-        phones: vec![b"brth".to_vec(); 24],
-    };
+    let longest = add(&"w".repeat(47), &"t".repeat(47), &"brth ".repeat(24));
     all.push(grown(2, 0, &[longest]));
     all.push(grown(3, 0, &[add("", "", ""), add("lead", "nil", "")]));
     all.extend(odd());

@@ -68,9 +68,8 @@ pub fn add(
     }
     let count = random.ranged(&[(1, 0, 0), (10, 1, 5), (2, 6, 24), (1, 24, 24)]);
     Add {
-        word: words::recased(random, &word),
-        tag,
-        phones: known(random, scene, phones, count),
+        wanted: Wanted::new(words::recased(random, &word), tag),
+        phones: List::of(&known(random, scene, phones, count)),
     }
 }
 

@@ -12,33 +12,10 @@ use rule::{added, refusal, refused_by_the_original};
 /// How many adds a lexicon and its store serve.
 const ADDS: usize = 60;
 
-/// What is to be added: a word, its tag and its phones, as they are handed in.
-#[derive(Clone)]
-pub struct Given {
-    pub wanted: Wanted,
-    pub phones: List,
-}
-
-impl Given {
-    pub fn of(add: Add) -> Given {
-        Given {
-            wanted: Wanted::new(add.word, add.tag),
-            phones: List::of(&add.phones),
-        }
-    }
-
-    pub fn parts(&self) -> Vec<Part<'_>> {
-        let wanted = self.wanted.parts().into_iter();
-        wanted.chain([self.phones.part()]).collect()
-    }
-}
-
-smaller!(Given: wanted, phones);
-
 #[derive(Clone)]
 pub struct Input {
     pub scene: Rc<Scene>,
-    pub given: Given,
+    pub given: Add,
 }
 
 smaller!(Input: scene, given);
@@ -110,7 +87,7 @@ impl Call for AddEntry {
         };
         met.all(given.wanted.met());
         met.all(rule::of_list(&scene.lexicon, &given.phones));
-        met.all(cells::of_phones(&rule::texts(&given.phones)));
+        met.all(cells::of_phones(&given.phones.texts()));
         met.all(cells::unread(&given.phones));
         met.shared(store_edges::features(&scene.store, before));
         Ok(Told::new(Answer::accepted(0, 0), row, vec![store]))
@@ -149,8 +126,7 @@ impl AddEntry {
             return short::input(scene, words::recased(random, word), [*tag], phones);
         }
         loop {
-            let add = store_shapes::add(random, scene, words, &self.phones, false);
-            let mut given = Given::of(add);
+            let mut given = store_shapes::add(random, scene, words, &self.phones, false);
             if !random.once_in(30) {
                 given.phones.cells.truncate(4);
             }
@@ -189,8 +165,8 @@ fn begin(random: &mut Random, phones: &Phones) -> (Pool, usize) {
 }
 
 /// An add that is accepted if there is room for it.
-fn given(random: &mut Random, scene: &Scene, words: &[Vec<u8>], phones: &Phones) -> Given {
-    let mut given = Given::of(store_shapes::add(random, scene, words, phones, false));
+fn given(random: &mut Random, scene: &Scene, words: &[Vec<u8>], phones: &Phones) -> Add {
+    let mut given = store_shapes::add(random, scene, words, phones, false);
     if let (Ok(entries), true) = (&scene.entries, random.once_in(3)) {
         if !entries.is_empty() {
             let entry = &entries[random.below(entries.len())].entry;
@@ -214,8 +190,8 @@ fn short_word(random: &mut Random) -> Vec<u8> {
 }
 
 /// Makes some adds refusable: one in three of them.
-pub fn spoil(random: &mut Random, given: &mut Given, phones: &Phones) {
-    let Given {
+pub fn spoil(random: &mut Random, given: &mut Add, phones: &Phones) {
+    let Add {
         wanted,
         phones: list,
     } = given;

@@ -20,7 +20,7 @@ use run::{Beside, Library};
 #[derive(Clone)]
 pub enum Act {
     NewSheet,
-    AddEntry(add_entry::Given),
+    AddEntry(Add),
     /// A text, and the byte that fills the spare; its length, if that is not the store's.
     AddText {
         text: Vec<u8>,

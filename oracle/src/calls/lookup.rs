@@ -196,7 +196,7 @@ fn store_to_record(
         .map(|_| {
             let scene = Scene::new(lexicon, stores::new(1, 0));
             let mut add = store_shapes::add(random, &scene, words, phones, false);
-            add.phones.truncate(6);
+            add.phones.cells.truncate(6);
             add
         })
         .collect();

@@ -223,7 +223,7 @@ impl SayWord {
         while inputs.len() < count {
             if random.once_in(2) && stores::room(&scene.store) > 0 {
                 let mut add = store_shapes::add(random, &scene, words, &self.phones, false);
-                add.phones.truncate(6);
+                add.phones.cells.truncate(6);
                 scene = scene.with_store(scene.grown(&[add]));
             }
             let entries = scene.entries();

@@ -1,13 +1,13 @@
 //! What 01 and the original make of an add.
 
-use super::{Given, Input};
+use super::Input;
 use crate::lexicons::is_of_the_50;
 use crate::prelude::*;
 
 /// The refusal that 01 gives, if it gives one. Tells what made it.
 pub fn refusal(input: &Input, met: &mut Met) -> Result<(), u32> {
     let Input { scene, given } = input;
-    let Given { wanted, phones } = given;
+    let Add { wanted, phones } = given;
     let cells = &phones.cells;
     met.refuse(1, scene.lexicon.names.is_none(), || None)?;
     met.sound(&scene.entries)?;
@@ -27,14 +27,10 @@ pub fn refusal(input: &Input, met: &mut Met) -> Result<(), u32> {
     met.refuse(8, lacks_room, || by_8(entries.len()))
 }
 
-pub fn texts(phones: &List) -> Vec<&[u8]> {
-    phones.cells.iter().map(text).collect()
-}
-
 /// What the original answers to an add, and its list after it, for each way to hand it the tag.
 fn asked(input: &Input) -> Result<Vec<(Result<(), LexiconError>, Vec<Entry>)>, String> {
-    let Given { wanted, phones } = &input.given;
-    let phones: Vec<&str> = texts(phones).into_iter().map(ascii).collect();
+    let Add { wanted, phones } = &input.given;
+    let phones: Vec<&str> = phones.texts().into_iter().map(ascii).collect();
     let add = |pos| {
         ask(|| {
             let scene = &input.scene;
@@ -82,8 +78,8 @@ pub fn refused_by_the_original(input: &Input) -> Result<(), String> {
 
 rows! { pub ROWS:
     /// What a word, a tag or a phone has that is refused by 3.
-    by_3(given: &Given) {
-        let Given { wanted, phones } = given;
+    by_3(given: &Add) {
+        let Add { wanted, phones } = given;
         let cells = &phones.cells;
         let (front, behind) = cells.split_at(cells.len().min(MOST_PHONES));
     } [
@@ -131,7 +127,7 @@ rows! { pub ROWS:
     ]
 
     /// What an add met whose key was known at this place of the list.
-    of_known(scene: &Scene, at: usize, given: &Given, store: &[u8]) {
+    of_known(scene: &Scene, at: usize, given: &Add, store: &[u8]) {
         let before = scene.entries();
         let last = before.len() - 1;
         let (count, was) = (given.phones.cells.len(), before[at].entry.phones.len());

@@ -1,6 +1,6 @@
 //! The short inputs of add_entry.
 
-use super::{Given, Input};
+use super::Input;
 use crate::prelude::*;
 
 pub fn inputs(phones: &Phones) -> Vec<Input> {
@@ -19,7 +19,7 @@ pub fn input(
 ) -> Input {
     Input {
         scene: scene.clone(),
-        given: Given {
+        given: Add {
             wanted: Wanted::new(word.as_ref(), tag.as_ref()),
             phones: List::of(phones),
         },

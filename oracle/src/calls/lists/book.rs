@@ -1,7 +1,6 @@
 //! The book beside a list of calls: the original with its own entries, and the words of the sheet.
 
 use super::{Act, Sections};
-use crate::calls::add_entry::Given;
 use crate::prelude::*;
 use crate::scene::entry;
 use crate::spoken::Word;
@@ -52,8 +51,8 @@ impl Book {
                 self.pending.push(wanted.clone());
                 self.wanted.push(wanted.clone());
             }
-            Act::AddEntry(Given { wanted, phones }) => {
-                let phones: Vec<&str> = phones.cells.iter().map(|cell| ascii(text(cell))).collect();
+            Act::AddEntry(Add { wanted, phones }) => {
+                let phones: Vec<&str> = phones.texts().into_iter().map(ascii).collect();
                 let tag = (!wanted.tag.is_empty()).then_some(ascii(&wanted.tag));
                 self.change(|lexicon| lexicon.add_entry(ascii(&wanted.word), tag, &phones))?;
             }

@@ -138,15 +138,15 @@ impl Pool<'_> {
                 tag,
             }),
             1 => {
-                let add = store_shapes::add(random, &self.scene, &self.words, self.phones, false);
-                let mut given = add_entry::Given::of(add);
+                let mut add =
+                    store_shapes::add(random, &self.scene, &self.words, self.phones, false);
                 if self.few {
-                    given.wanted.tag = tag;
+                    add.wanted.tag = tag;
                 }
                 if random.once_in(2) {
-                    add_entry::spoil(random, &mut given, self.phones);
+                    add_entry::spoil(random, &mut add, self.phones);
                 }
-                Act::AddEntry(given)
+                Act::AddEntry(add)
             }
             2 => {
                 let texts = add_entries::Texts {

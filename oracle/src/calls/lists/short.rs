@@ -1,7 +1,6 @@
 //! The short lists: every list of up to four calls over a few of them.
 
 use super::{Act, Input, Sections, Step};
-use crate::calls::add_entry::Given;
 use crate::lexicon_edges::row;
 use crate::prelude::*;
 use crate::sheets::LARGEST;
@@ -12,7 +11,7 @@ fn say(word: &str, tag: &str) -> Act {
 }
 
 fn add(word: &str, tag: &str, phones: &str) -> Act {
-    Act::AddEntry(Given::of(store_edges::add(word, tag, phones)))
+    Act::AddEntry(store_edges::add(word, tag, phones))
 }
 
 fn text(text: &str) -> Act {

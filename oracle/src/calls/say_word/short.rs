@@ -100,7 +100,7 @@ fn short_lists() -> Vec<Input> {
     }
     for add in &adds {
         for sheet in &sheets {
-            inputs.push(input(&scene, &trees, sheet, &add.word, "nil"));
+            inputs.push(input(&scene, &trees, sheet, &add.wanted.word, "nil"));
         }
     }
     inputs
