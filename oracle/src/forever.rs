@@ -1,5 +1,6 @@
 //! The original reads sections that live as long as the program; these live as long as their reader.
 
+use crate::lent::Part;
 use original::data::Container;
 
 /// Bytes that pass for `'static`. Whoever keeps one keeps it behind what reads it, so that it goes last.
@@ -51,15 +52,15 @@ pub fn hold_texts<T>(texts: &[&[u8]], make: impl FnOnce(Vec<&'static str>) -> T)
 
 /// Hands sections to the original the only way it takes them: as a container.
 pub fn hold<T, E: std::fmt::Debug>(
-    sections: &[(&str, &[u8])],
+    sections: &[Part],
     parse: impl FnOnce(&Container<'static>) -> Result<T, E>,
 ) -> Held<T> {
     let mut bytes = b"FLRSDAT\x01".to_vec();
-    for (name, payload) in sections {
-        bytes.push(name.len() as u8);
-        bytes.extend_from_slice(name.as_bytes());
-        bytes.extend_from_slice(&(payload.len() as u32).to_le_bytes());
-        bytes.extend_from_slice(payload);
+    for section in sections {
+        bytes.push(section.name.len() as u8);
+        bytes.extend_from_slice(section.name.as_bytes());
+        bytes.extend_from_slice(&(section.bytes.len() as u32).to_le_bytes());
+        bytes.extend_from_slice(&section.bytes);
     }
     let bytes = Forever::new(bytes);
     let container = Container::parse(bytes.bytes()).expect("the original reads our container");

@@ -1,6 +1,9 @@
 //! Bytes lent to the library, and how large an output is handed in.
 
+use crate::notation::Form;
 use crate::random::Random;
+use crate::shrink::{with, Shrink};
+use std::borrow::Cow;
 
 const GUARD: usize = 24;
 const GUARD_BYTE: u8 = 0xa5;
@@ -22,9 +25,12 @@ impl Lent {
         &self.room[GUARD..self.room.len() - GUARD]
     }
 
-    pub fn bytes_mut(&mut self) -> &mut [u8] {
-        let end = self.room.len() - GUARD;
-        &mut self.room[GUARD..end]
+    pub fn pointer(&mut self) -> *mut u8 {
+        self.room[GUARD..].as_mut_ptr()
+    }
+
+    pub fn len(&self) -> usize {
+        self.room.len() - 2 * GUARD
     }
 
     pub fn guards_kept(&self) -> bool {
@@ -39,10 +45,72 @@ impl Lent {
     }
 }
 
-/// The first of some lent bytes that are no longer what they were.
-pub fn altered(lent: &[(&'static str, &Lent, &[u8])]) -> Option<&'static str> {
-    let broken = lent.iter().find(|(_, lent, was)| !lent.kept(was));
-    broken.map(|(name, _, _)| *name)
+/// Whether a call may write what it is lent.
+enum Use {
+    Read,
+    Written,
+    /// An output, whose length depends on the answer.
+    Output(Room),
+}
+
+/// Something that a call is lent.
+pub struct Part<'a> {
+    pub name: &'static str,
+    pub form: Form,
+    /// The bytes as they are handed in; none of an output.
+    pub bytes: Cow<'a, [u8]>,
+    used: Use,
+}
+
+impl<'a> Part<'a> {
+    pub fn read(name: &'static str, form: Form, bytes: impl Into<Cow<'a, [u8]>>) -> Part<'a> {
+        Part {
+            name,
+            form,
+            bytes: bytes.into(),
+            used: Use::Read,
+        }
+    }
+
+    /// A part that the call may write.
+    pub fn written(name: &'static str, form: Form, bytes: &'a [u8]) -> Part<'a> {
+        Part {
+            used: Use::Written,
+            ..Part::read(name, form, bytes)
+        }
+    }
+
+    /// An output, which is the first thing that its call writes.
+    pub fn output(form: Form, room: Room) -> Part<'a> {
+        Part {
+            used: Use::Output(room),
+            ..Part::read("the output", form, &[][..])
+        }
+    }
+
+    pub fn is_written(&self) -> bool {
+        !matches!(self.used, Use::Read)
+    }
+
+    pub fn is_output(&self) -> bool {
+        matches!(self.used, Use::Output(_))
+    }
+
+    /// The bytes as they are handed in, where an answer needs so many.
+    pub fn handed(&self, need: usize) -> Vec<u8> {
+        match &self.used {
+            Use::Output(room) => room.bytes(need),
+            _ => self.bytes.to_vec(),
+        }
+    }
+
+    /// What is told of a part that was altered though nothing may alter it.
+    pub fn altered(&self) -> String {
+        match self.used {
+            Use::Read => self.name.into(),
+            _ => format!("bytes beside {}", self.name),
+        }
+    }
 }
 
 /// How long an output is, beside what its answer needs.
@@ -68,6 +136,15 @@ impl Room {
         fill: 0x77,
         step: 0,
     };
+
+    /// A room of this size for a short input, whose bytes differ.
+    pub fn of(size: Size) -> Room {
+        Room {
+            size,
+            fill: 0x30,
+            step: 7,
+        }
+    }
 
     /// A room for any call; one in ten is too short.
     pub fn random(random: &mut Random, widest: usize) -> Room {
@@ -109,9 +186,11 @@ impl Room {
         let byte = |i: usize| self.fill.wrapping_add(self.step.wrapping_mul(i as u8));
         (0..len).map(byte).collect()
     }
+}
 
-    /// Plainer rooms, for shrinking.
-    pub fn smaller(&self) -> Vec<Room> {
+/// Plainer rooms.
+impl Shrink for Room {
+    fn smaller(&self) -> Vec<Room> {
         let sizes = match self.size {
             Size::Exact => vec![],
             Size::More(1) => vec![Size::Exact],
@@ -119,10 +198,7 @@ impl Room {
             Size::Short(1) => vec![Size::Exact],
             Size::Short(n) => vec![Size::Exact, Size::Short(1), Size::Short(n / 2)],
         };
-        let mut rooms: Vec<Room> = sizes
-            .into_iter()
-            .map(|size| Room { size, ..*self })
-            .collect();
+        let mut rooms = with(self, sizes, |room, size| room.size = size);
         if self.step != 0 || self.fill != Room::PLAIN.fill {
             rooms.push(Room {
                 size: self.size,

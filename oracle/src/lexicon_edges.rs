@@ -1,7 +1,7 @@
 //! Lexicons for the short inputs: every small one, and sections at 01's limits and just past them.
 
 use crate::lexicons::{index, sections, Lexicon, Row, Sections};
-use crate::trees::phone_table;
+use crate::tables::{self, phone_table};
 use std::rc::Rc;
 
 /// An entry of these parts.
@@ -76,21 +76,9 @@ pub fn altered_bytes() -> Vec<Rc<Lexicon>> {
         let len = part(&mut good.clone()).len();
         for at in 0..len {
             let byte = part(&mut good.clone())[at];
-            for value in [
-                0,
-                1,
-                2,
-                3,
-                16,
-                65,
-                97,
-                98,
-                127,
-                128,
-                255,
-                byte ^ 1,
-                byte.wrapping_add(1),
-            ] {
+            let values = [0, 1, 2, 3, 16, 65, 97, 98, 127, 128, 255];
+            let near = [byte ^ 1, byte.wrapping_add(1)];
+            for value in values.into_iter().chain(near) {
                 let mut sections = good.clone();
                 part(&mut sections)[at] = value;
                 all.push(sections);
@@ -120,19 +108,9 @@ pub fn limits() -> Vec<Rc<Lexicon>> {
         s.data = data;
     };
     add(&|_| {});
-    add(&|s| s.phones = vec![]);
-    add(&|s| s.phones.truncate(3));
-    add(&|s| s.phones = phone_table(&[]));
-    add(&|s| s.phones = phone_table(&[vec![b'p'; 15]]));
-    add(&|s| s.phones = phone_table(&[vec![b'p'; 16]]));
-    add(&|s| s.phones = phone_table(&[vec![127]]));
-    add(&|s| s.phones = phone_table(&[vec![128]]));
-    add(&|s| s.phones = phone_table(&[vec![0xc3, 0xa9]]));
-    add(&|s| s.phones = phone_table(&vec![vec![b'p']; 256]));
-    add(&|s| s.phones = phone_table(&vec![vec![b'p']; 257]));
-    add(&|s| s.phones.extend([16, 200, 255]));
-    add(&|s| s.phones[..4].copy_from_slice(&[0, 0, 0, 1]));
-    add(&|s| s.phones[..4].copy_from_slice(&[255; 4]));
+    for table in tables::limits(&good().phones) {
+        add(&|s| s.phones = table.clone());
+    }
     // counts of the index: none, more than there are, and so many that a sum of 32 bits wraps
     add(&|s| s.index = vec![]);
     add(&|s| s.index = vec![0; 3]);
@@ -169,11 +147,11 @@ pub fn limits() -> Vec<Rc<Lexicon>> {
     add(&|s| one(s, entry(128, b"a", &[2])));
     add(&|s| one(s, entry(127, b"a", &[3])));
     add(&|s| {
-        s.phones = phone_table(&vec![vec![b'p']; 256]);
+        s.phones = phone_table(&["p"; 256]);
         one(s, entry(b'n', b"a", &[255, 0, 128]));
     });
     add(&|s| {
-        s.phones = phone_table(&vec![vec![b'p']; 255]);
+        s.phones = phone_table(&["p"; 255]);
         one(s, entry(b'n', b"a", &[255]));
     });
     // lists about as long as an answer can be

@@ -1,13 +1,11 @@
 //! Lexicons of many shapes, and ways to break them.
 
-use crate::lexicons::{entry_bytes, index, sections, Lexicon, Row, Sections};
-use crate::phones::Phones;
-use crate::random::Random;
+use crate::lexicons::{entry_bytes, index, sections, Row, Sections};
+use crate::prelude::*;
 use crate::shrink::{parts, shorter, without};
-use crate::trees::phone_table;
-use crate::words;
+use crate::tables::{self, phone_table, put};
 use original::lexicon::probe;
-use std::rc::Rc;
+use std::ops::Range;
 
 /// A lexicon, and words to try on it: some of its own, some of the addenda, and others.
 pub struct Shape {
@@ -59,11 +57,12 @@ pub fn few_to_record(random: &mut Random, phones: &Phones) -> Shape {
 
 /// A lexicon that only names phones.
 pub fn of_phones(random: &mut Random, phones: &Phones) -> Lexicon {
-    Lexicon::of(&names(random, phones), &[])
+    let names = tables::names(random, |random| phones.phone(random));
+    Lexicon::of(&names, &[])
 }
 
 fn plan(random: &mut Random, phones: &Phones, most: usize) -> Shape {
-    let names = names(random, phones);
+    let names = tables::names(random, |random| phones.phone(random));
     let alphabet = words::alphabet(random);
     let rows = rows(random, most, &alphabet, names.len());
     let mut words: Vec<Vec<u8>> = vec![];
@@ -84,25 +83,9 @@ pub fn addenda() -> Vec<&'static str> {
     probe::addenda().iter().map(|(_, word, _)| *word).collect()
 }
 
-/// The names of a phone table.
-fn names(random: &mut Random, phones: &Phones) -> Vec<Vec<u8>> {
-    let count = match random.weighted(&[1, 2, 12, 8, 2]) {
-        0 => 0,
-        1 => 1,
-        2 => random.between(2, 12),
-        3 => random.between(13, 80),
-        _ => 256,
-    };
-    (0..count).map(|_| phones.phone(random)).collect()
-}
-
 /// Entries, many of them homographs; three of four times their words do not fall.
 fn rows(random: &mut Random, most: usize, alphabet: &[u8], names: usize) -> Vec<Row> {
-    let count = match random.weighted(&[1, 1, 16]) {
-        0 => 0,
-        1 => 1,
-        _ => random.between(2, most),
-    };
+    let count = random.ranged(&[(1, 0, 0), (1, 1, 1), (16, 2, most)]);
     let mut rows: Vec<Row> = vec![];
     while rows.len() < count {
         let word = word(random, alphabet, &rows);
@@ -127,7 +110,7 @@ fn rows(random: &mut Random, most: usize, alphabet: &[u8], names: usize) -> Vec<
                 }
             }
         }
-        2 => shuffle(random, &mut rows),
+        2 => random.shuffle(&mut rows),
         _ => rows.sort_by(|a, b| (&a.word, a.tag).cmp(&(&b.word, b.tag))),
     }
     rows
@@ -184,7 +167,7 @@ fn numbers(random: &mut Random, names: usize) -> Vec<u8> {
 fn laid_out(random: &mut Random, names: &[Vec<u8>], rows: &[Row]) -> Sections {
     let mut order: Vec<usize> = (0..rows.len()).collect();
     if random.once_in(4) {
-        shuffle(random, &mut order);
+        random.shuffle(&mut order);
     }
     let gaps = random.once_in(4);
     let mut data = vec![];
@@ -211,12 +194,6 @@ fn laid_out(random: &mut Random, names: &[Vec<u8>], rows: &[Row]) -> Sections {
     sections
 }
 
-fn shuffle<T>(random: &mut Random, list: &mut [T]) {
-    for i in (1..list.len()).rev() {
-        list.swap(i, random.between(0, i));
-    }
-}
-
 /// Breaks the form of a section, damages an entry, or alters any byte.
 pub fn broken(random: &mut Random, lexicon: &Lexicon) -> Lexicon {
     let mut sections = lexicon.sections.clone();
@@ -235,70 +212,50 @@ fn break_one(random: &mut Random, sections: &mut Sections, lexicon: &Lexicon) {
         Some(offsets) if entries > 0 => offsets[entry],
         _ => 0,
     };
+    let Sections {
+        phones,
+        index,
+        data,
+    } = sections;
+    let len = data.len();
     match random.below(14) {
-        0 => break_phones(random, &mut sections.phones, names),
-        1 => {
-            let len = random.below(sections.index.len() + 1);
-            sections.index.truncate(len);
-        }
+        0 => break_phones(random, phones, names),
+        1 => index.truncate(random.below(index.len() + 1)),
         2 => {
             let more = [1, 2, random.between(1, 9), 1 << 30, u32::MAX as usize];
             let count = (entries + more[random.below(5)]) as u32;
-            put(&mut sections.index, 0, &count.to_le_bytes());
+            put(index, 0, &count.to_le_bytes());
         }
-        3 | 4 => {
-            let len = random.below(sections.data.len() + 1);
-            sections.data.truncate(len);
-        }
-        5 => sections.data.clear(),
+        3 | 4 => data.truncate(random.below(len + 1)),
+        5 => data.clear(),
         6 | 7 => {
-            let len = sections.data.len();
-            let outside = [
-                len,
-                len - 1.min(len),
-                len + random.below(9),
-                u32::MAX as usize,
-            ];
+            let far = u32::MAX as usize;
+            let outside = [len, len - 1.min(len), len + random.below(9), far];
             let outside = outside[random.below(4)] as u32;
-            put(&mut sections.index, 4 + 4 * entry, &outside.to_le_bytes());
+            put(index, 4 + 4 * entry, &outside.to_le_bytes());
         }
-        8 => put(
-            &mut sections.data,
-            offset + 2,
-            &[128 + random.below(128) as u8],
-        ),
+        8 => put(data, offset + 2, &[128 + random.below(128) as u8]),
         // a word or a list that is longer than it was
-        9 => put(&mut sections.data, offset + 1, &[random.byte()]),
+        9 => put(data, offset + 1, &[random.byte()]),
         10 => {
             if let Ok(entry) = lexicon.entry(entry) {
-                put(
-                    &mut sections.data,
-                    offset + 2 + entry.word.len(),
-                    &[random.byte()],
-                );
+                put(data, offset + 2 + entry.word.len(), &[random.byte()]);
             }
         }
         11 => {
             if let Ok(entry) = lexicon.entry(entry) {
-                let at = offset + 3 + entry.word.len();
                 let last = entry.numbers.len().saturating_sub(1);
-                put(
-                    &mut sections.data,
-                    at + random.between(0, last),
-                    &[names as u8],
-                );
+                let at = offset + 3 + entry.word.len() + random.between(0, last);
+                put(data, at, &[names as u8]);
             }
         }
         _ => {
             for _ in 0..random.between(1, 6) {
                 let byte = [random.byte()];
                 match random.below(4) {
-                    0 => put(&mut sections.phones, random.below(600), &byte),
-                    1 => put(&mut sections.index, random.below(4 * entries + 4), &byte),
-                    _ => {
-                        let len = sections.data.len();
-                        put(&mut sections.data, random.below(len + 1), &byte);
-                    }
+                    0 => put(phones, random.below(600), &byte),
+                    1 => put(index, random.below(4 * entries + 4), &byte),
+                    _ => put(data, random.below(len + 1), &byte),
                 }
             }
         }
@@ -314,114 +271,54 @@ pub fn broken_table(random: &mut Random, lexicon: &Lexicon) -> Rc<Lexicon> {
 }
 
 fn break_phones(random: &mut Random, table: &mut Vec<u8>, names: usize) {
-    match random.below(4) {
-        0 => table.truncate(random.below(table.len() + 1)),
-        1 => {
-            let count = random.between(names + 1, 300) as u32;
-            put(table, 0, &count.to_le_bytes());
-        }
-        2 => put(table, 4, &[random.between(16, 255) as u8]),
-        _ => {
-            let at = random.below(table.len() + 1);
-            put(table, at, &[128 + random.below(128) as u8]);
-        }
-    }
+    let way = random.below(tables::BREAKS);
+    tables::break_form(random, table, names, way);
 }
 
-/// Writes bytes into a section, where it is long enough.
-fn put(section: &mut [u8], at: usize, bytes: &[u8]) {
-    if let Some(place) = section.get_mut(at..at + bytes.len()) {
-        place.copy_from_slice(bytes);
-    }
-}
-
-/// Lexicons with something left out, for shrinking.
-pub fn smaller(lexicon: &Lexicon) -> Vec<Rc<Lexicon>> {
-    let given = &lexicon.sections;
-    let mut all = vec![];
-    match (&lexicon.names, &lexicon.offsets) {
-        (Some(names), Some(offsets)) => {
-            let names_left = shorter(names);
-            all.extend(names_left.iter().map(|names| Sections {
-                phones: phone_table(names),
-                ..given.clone()
-            }));
-            let rows: Result<Vec<Row>, _> = (0..lexicon.count())
-                .map(|i| lexicon.entry(i).map(Row::from))
-                .collect();
-            match rows {
-                Ok(rows) => all.extend(fewer_rows(given, names, &rows)),
-                Err(_) => all.extend(fewer_bytes(given, offsets)),
+impl Shrink for Rc<Lexicon> {
+    fn smaller(&self) -> Vec<Rc<Lexicon>> {
+        let given = &self.sections;
+        let all = match (&self.names, &self.offsets) {
+            (Some(names), Some(offsets)) => {
+                let tables = with(given, names.smaller(), |s, names| {
+                    s.phones = phone_table(&names)
+                });
+                let rows: Result<Vec<Row>, _> = (0..self.count())
+                    .map(|i| self.entry(i).map(Row::from))
+                    .collect();
+                let fewer = match rows {
+                    Ok(rows) => fewer_rows(given, names, &rows),
+                    Err(_) => fewer_bytes(given, offsets),
+                };
+                [tables, fewer].concat()
             }
-        }
-        _ => {
-            let parts: [fn(&mut Sections) -> &mut Vec<u8>; 3] =
-                [|s| &mut s.data, |s| &mut s.index, |s| &mut s.phones];
-            for part in parts {
-                for bytes in shorter(part(&mut given.clone())) {
-                    let mut sections = given.clone();
-                    *part(&mut sections) = bytes;
-                    all.push(sections);
-                }
-            }
-        }
+            _ => given.smaller(),
+        };
+        all.into_iter().map(Lexicon::new).map(Rc::new).collect()
     }
-    all.into_iter().map(Lexicon::new).map(Rc::new).collect()
 }
 
 /// Entries left out or made plainer, and written one behind the other.
-fn fewer_rows(given: &Sections, names: &[Vec<u8>], rows: &[Row]) -> Vec<Sections> {
-    let mut all = vec![];
-    let plain = sections(names, rows);
-    if plain.data != given.data || plain.index != given.index || plain.phones != given.phones {
-        all.push(plain);
-    }
-    for rows in shorter(rows) {
-        all.push(sections(names, &rows));
-    }
-    for i in 0..rows.len().min(16) {
-        let mut change = |row: Row| {
-            let mut rows = rows.to_vec();
-            rows[i] = row;
-            all.push(sections(names, &rows));
-        };
-        for numbers in shorter(&rows[i].numbers) {
-            change(Row {
-                numbers,
-                ..rows[i].clone()
-            });
-        }
-        for word in shorter(&rows[i].word) {
-            change(Row {
-                word,
-                ..rows[i].clone()
-            });
-        }
-    }
-    all
+fn fewer_rows(given: &Sections, names: &[Vec<u8>], rows: &Vec<Row>) -> Vec<Sections> {
+    let written = |rows: &Vec<Row>| sections(names, rows);
+    let plain = Some(written(rows)).filter(|plain| plain != given);
+    let fewer = rows.smaller();
+    plain.into_iter().chain(fewer.iter().map(written)).collect()
 }
 
 /// Offsets left out, or bytes, behind which the offsets move.
 fn fewer_bytes(given: &Sections, offsets: &[usize]) -> Vec<Sections> {
-    let mut all = vec![];
-    for offsets in shorter(offsets) {
-        all.push(Sections {
-            index: index(&offsets),
-            ..given.clone()
-        });
-    }
-    for part in parts(given.data.len()) {
+    let cut = |sections: &mut Sections, part: Range<usize>| {
         let moved = |offset: &usize| match *offset {
             offset if offset >= part.end => offset - part.len(),
             offset if offset > part.start => part.start,
             offset => offset,
         };
-        let offsets: Vec<usize> = offsets.iter().map(moved).collect();
-        all.push(Sections {
-            index: index(&offsets),
-            data: without(&given.data, &part),
-            ..given.clone()
-        });
-    }
-    all
+        sections.index = index(&offsets.iter().map(moved).collect::<Vec<usize>>());
+        sections.data = without(&given.data, &part);
+    };
+    let fewer = with(given, shorter(offsets), |s, offsets| {
+        s.index = index(&offsets)
+    });
+    [fewer, with(given, parts(given.data.len()), cut)].concat()
 }

@@ -1,17 +1,31 @@
 //! The sections of the lexicon: their form by 01, what the search reads, and the original's reading.
 
 use crate::forever::{hold, Held};
-use crate::trees::{phone_names, phone_table};
+use crate::lent::Part;
+use crate::notation::Form;
+use crate::tables::{phone_names, phone_table};
 use original::{lexicon, phoneset};
 use std::rc::Rc;
 
 /// The three sections as bytes.
-#[derive(Clone)]
+#[derive(Clone, PartialEq)]
 pub struct Sections {
     pub phones: Vec<u8>,
     pub index: Vec<u8>,
     pub data: Vec<u8>,
 }
+
+impl Sections {
+    pub fn parts(&self) -> [Part<'_>; 3] {
+        [
+            Part::read("lex.phones", Form::PhoneTable, &self.phones),
+            Part::read("lex.index", Form::Bytes, &self.index),
+            Part::read("lex.data", Form::Bytes, &self.data),
+        ]
+    }
+}
+
+smaller!(Sections: data, index, phones);
 
 /// A compiled entry before it is written.
 #[derive(Clone)]
@@ -20,6 +34,8 @@ pub struct Row {
     pub word: Vec<u8>,
     pub numbers: Vec<u8>,
 }
+
+smaller!(Row: numbers, word);
 
 /// A compiled entry that is not damaged.
 #[derive(Clone, Copy)]
@@ -81,14 +97,7 @@ impl Lexicon {
         let names = phone_names(&sections.phones);
         let offsets = offsets(&sections.index);
         let original = names.is_some() && offsets.is_some();
-        let original = original.then(|| {
-            let parts = [
-                ("lex.phones", &sections.phones[..]),
-                ("lex.index", &sections.index[..]),
-                ("lex.data", &sections.data[..]),
-            ];
-            hold(&parts, lexicon::Lexicon::parse)
-        });
+        let original = original.then(|| hold(&sections.parts(), lexicon::Lexicon::parse));
         let mut made = Lexicon {
             sections,
             names,
@@ -260,7 +269,6 @@ pub fn entry_bytes(row: &Row) -> Vec<u8> {
 
 /// Sections of these phones and entries, one entry behind the other.
 pub fn sections<T: AsRef<[u8]>>(names: &[T], rows: &[Row]) -> Sections {
-    let names: Vec<Vec<u8>> = names.iter().map(|name| name.as_ref().to_vec()).collect();
     let mut data = vec![];
     let mut offsets = vec![];
     for row in rows {
@@ -268,7 +276,7 @@ pub fn sections<T: AsRef<[u8]>>(names: &[T], rows: &[Row]) -> Sections {
         data.extend(entry_bytes(row));
     }
     Sections {
-        phones: phone_table(&names),
+        phones: phone_table(names),
         index: index(&offsets),
         data,
     }

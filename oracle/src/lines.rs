@@ -1,5 +1,7 @@
 //! Lines of entries, as 01 reads them.
 
+use crate::shrink;
+
 /// The fields of a line that names an entry.
 pub struct Fields<'a> {
     /// The first field as it stands; the word is it without its outer quote marks.
@@ -59,4 +61,12 @@ fn unquoted(field: &[u8]) -> &[u8] {
     };
     let to = field.iter().rposition(|b| *b != b'"').unwrap_or(from);
     &field[from..=to]
+}
+
+/// Texts with lines left out, or bytes, for shrinking.
+pub fn shorter(text: &[u8]) -> Vec<Vec<u8>> {
+    let lines: Vec<&[u8]> = text.split_inclusive(|b| *b == b'\n').collect();
+    let fewer = shrink::shorter(&lines).into_iter();
+    let fewer = fewer.map(|lines| lines.concat());
+    fewer.chain(shrink::shorter(text)).collect()
 }

@@ -1,8 +1,7 @@
 //! The two tables of the sayable machines, and the original's reading of them.
 
 use crate::forever::{hold, Held};
-use crate::random::Random;
-use crate::words;
+use crate::prelude::*;
 use original::language::Sayable;
 
 /// Bytes that stand before the cells and are skipped.
@@ -18,15 +17,17 @@ pub struct Machines {
 
 impl Machines {
     pub fn new(sections: [Vec<u8>; 2], alphabet: Vec<u8>) -> Machines {
-        let original = sections.iter().all(|s| s.len() >= HEAD).then(|| {
-            let parts = [("aswd.p", &sections[0][..]), ("aswd.s", &sections[1][..])];
-            hold(&parts, Sayable::parse)
-        });
+        let has_form = sections.iter().all(|s| s.len() >= HEAD);
+        let original = has_form.then(|| hold(&parts(&sections), Sayable::parse));
         Machines {
             sections,
             alphabet,
             original,
         }
+    }
+
+    pub fn parts(&self) -> [Part<'_>; 2] {
+        parts(&self.sections)
     }
 
     /// Whether both sections have 01's form.
@@ -44,6 +45,23 @@ impl Machines {
     pub fn cells(&self, side: usize) -> Vec<u16> {
         let cells = self.sections[side][HEAD..].chunks_exact(2);
         cells.map(|c| u16::from_le_bytes([c[0], c[1]])).collect()
+    }
+}
+
+fn parts([prefix, suffix]: &[Vec<u8>; 2]) -> [Part<'_>; 2] {
+    [
+        Part::read("aswd.p", Form::Bytes, prefix),
+        Part::read("aswd.s", Form::Bytes, suffix),
+    ]
+}
+
+impl Shrink for Rc<Machines> {
+    fn smaller(&self) -> Vec<Rc<Machines>> {
+        let [prefix, suffix] = &self.sections;
+        let prefixes = with(&self.sections, prefix.smaller(), |s, prefix| s[0] = prefix);
+        let suffixes = with(&self.sections, suffix.smaller(), |s, suffix| s[1] = suffix);
+        let made = |sections| Rc::new(Machines::new(sections, vec![]));
+        prefixes.into_iter().chain(suffixes).map(made).collect()
     }
 }
 

@@ -1,5 +1,10 @@
 //! Compares the proved library with the original Rust, call by call; see README.md.
 
+#[macro_use]
+mod rows;
+#[macro_use]
+mod shrink;
+
 mod call;
 mod calls;
 mod cells;
@@ -13,20 +18,23 @@ mod machines;
 mod notation;
 mod ours;
 mod phones;
+mod prelude;
 mod random;
 mod record;
+mod records;
 mod run;
 mod scene;
-mod shapes;
 mod sheet_edges;
 mod sheet_shapes;
 mod sheets;
-mod shrink;
 mod spoken;
 mod store_edges;
 mod store_shapes;
 mod stores;
+mod tables;
 mod tally;
+mod tree_edges;
+mod tree_shapes;
 mod trees;
 mod words;
 
@@ -56,26 +64,23 @@ fn main() -> ExitCode {
     call::quiet_panics();
     let seed = arguments.seed;
     let mut calls: Vec<Box<dyn Compared>> = vec![
-        Box::new(Runner::new(predict::Predict::default(), seed)),
-        Box::new(Runner::new(syllabify::Syllabify::new(), seed)),
-        Box::new(Runner::new(is_sayable::IsSayable::default(), seed)),
-        Box::new(Runner::new(is_vowel::IsVowel::new(), seed)),
-        Box::new(Runner::new(split_stress::SplitStress::new(), seed)),
-        Box::new(Runner::new(check_lexicon::CheckLexicon::new(), seed)),
-        Box::new(Runner::new(lookup::Lookup::new(), seed)),
-        Box::new(Runner::new(new_store::NewStore, seed)),
-        Box::new(Runner::new(add_entry::AddEntry::new(), seed)),
-        Box::new(Runner::new(add_entries::AddEntries::new(), seed)),
+        Runner::<predict::Predict>::boxed(seed),
+        Runner::<syllabify::Syllabify>::boxed(seed),
+        Runner::<is_sayable::IsSayable>::boxed(seed),
+        Runner::<is_vowel::IsVowel>::boxed(seed),
+        Runner::<split_stress::SplitStress>::boxed(seed),
+        Runner::<check_lexicon::CheckLexicon>::boxed(seed),
+        Runner::<lookup::Lookup>::boxed(seed),
+        Runner::<new_store::NewStore>::boxed(seed),
+        Runner::<add_entry::AddEntry>::boxed(seed),
+        Runner::<add_entries::AddEntries>::boxed(seed),
     ];
     // the recorded list needs no library
     if ours::SHEETS || arguments.record.is_some() {
-        calls.push(Box::new(Runner::new(new_sheet::NewSheet, seed)));
-        calls.push(Box::new(Runner::new(say_word::SayWord::new(), seed)));
-        calls.push(Box::new(Runner::new(
-            phone_string::PhoneString::new(),
-            seed,
-        )));
-        calls.push(Box::new(Runner::new(lists::Lists::new(), seed)));
+        calls.push(Runner::<new_sheet::NewSheet>::boxed(seed));
+        calls.push(Runner::<say_word::SayWord>::boxed(seed));
+        calls.push(Runner::<phone_string::PhoneString>::boxed(seed));
+        calls.push(Runner::<lists::Lists>::boxed(seed));
     }
     if let Limit::Lists(_) = arguments.limit {
         // nothing else then

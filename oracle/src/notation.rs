@@ -2,10 +2,68 @@
 //! `<text>` (a length byte and a text), `[text]` (a cell of 16 bytes), or `{N}` and a piece N times.
 
 use crate::cells::{cell, CELL};
-use crate::lexicons::Sections;
+use crate::lent::Part;
+use crate::ours::Answer;
+use crate::records::number;
 use crate::sheets::ITEM;
 use crate::stores::{MOST_PHONES, SLOT};
-use crate::trees::phone_names;
+use crate::tables::phone_names;
+
+/// What bytes are, which tells how they are written.
+#[derive(Clone, Copy)]
+pub enum Form {
+    Bytes,
+    /// A word or a phone.
+    Text,
+    PhoneTable,
+    PhoneList,
+    Store,
+    /// Any bytes, which a call leaves as a store.
+    Spare,
+    Sheet,
+    /// Any bytes, at whose front a call leaves as many cells as its answer says.
+    Cells,
+}
+
+impl Form {
+    pub fn shown(self, given: &[u8]) -> String {
+        match self {
+            Form::Bytes | Form::Spare | Form::Cells => bytes(given),
+            Form::Text => text(given),
+            Form::PhoneTable => phone_table(given),
+            Form::PhoneList => or_dot(cells_of(given, given.len() / CELL)),
+            Form::Store => store(given),
+            Form::Sheet => sheet(given),
+        }
+    }
+
+    /// What a call left of it.
+    pub fn at_exit(self, left: &[u8], answer: Answer) -> String {
+        match self {
+            Form::Spare => store(left),
+            Form::Cells => or_dot(cells_of(
+                left,
+                (answer.value as usize).min(left.len() / CELL),
+            )),
+            form => form.shown(left),
+        }
+    }
+}
+
+/// A call as a line: its name and its parts, of which the first may be written otherwise.
+pub fn line(name: &str, parts: &[Part], handed: &[Vec<u8>], front: &[String]) -> String {
+    let mut handed = handed.iter();
+    let mut words = vec![name.to_string()];
+    for (i, part) in parts.iter().enumerate() {
+        let bytes = match part.is_written() {
+            true => handed.next().map_or(&[][..], |bytes| bytes),
+            false => &part.bytes,
+        };
+        let shown = || part.form.shown(bytes);
+        words.push(front.get(i).cloned().unwrap_or_else(shown));
+    }
+    words.join(" ")
+}
 
 /// Any bytes.
 pub fn bytes(bytes: &[u8]) -> String {
@@ -20,18 +78,8 @@ pub fn text(text: &[u8]) -> String {
     }
 }
 
-/// A phone list: its cells, then the remainder.
-pub fn phone_list(list: &[u8]) -> String {
-    or_dot(cells_of(list, list.len() / CELL))
-}
-
-/// An output: so many cells of answer, then the bytes behind them.
-pub fn answered(output: &[u8], count: usize) -> String {
-    or_dot(cells_of(output, count))
-}
-
 /// A phone table: its count, so many strings, then the bytes behind them.
-pub fn phone_table(table: &[u8]) -> String {
+fn phone_table(table: &[u8]) -> String {
     let (count, mut rest) = table.split_at(table.len().min(4));
     let mut text: String = count.iter().map(|b| hex(*b)).collect();
     for name in phone_names(table).unwrap_or_default() {
@@ -45,57 +93,45 @@ pub fn phone_table(table: &[u8]) -> String {
     or_dot(text + &pieces(rest))
 }
 
-/// The three sections of a lexicon.
-pub fn lexicon(sections: &Sections) -> String {
-    let tables = [
-        phone_table(&sections.phones),
-        bytes(&sections.index),
-        bytes(&sections.data),
-    ];
-    tables.join(" ")
-}
-
-/// A store: slot by slot up to the last that is used, with its phones as cells; then the bytes behind.
+/// A store: slot by slot, with its phones as cells.
 pub fn store(store: &[u8]) -> String {
-    let used = match store.get(4..6) {
-        Some(used) => usize::from(u16::from_le_bytes([used[0], used[1]])),
-        None => 0,
-    };
-    let (front, behind) = store.split_at((SLOT * (used + 1)).min(store.len()));
-    let mut text = String::new();
-    for (i, slot) in front.chunks(SLOT).enumerate() {
+    let used = store.get(4..6).map_or(0, number);
+    records(store, SLOT, used, |i, slot| {
         // the phones stand from 64 on, their count at 51
         let count = slot.get(51).map_or(0, |count| usize::from(*count));
-        if i == 0 || slot.len() < SLOT || count == 0 || count > MOST_PHONES {
-            text += &pieces(slot);
-            continue;
+        match i > 0 && slot.len() == SLOT && (1..=MOST_PHONES).contains(&count) {
+            true => pieces(&slot[..64]) + &cells_of(&slot[64..], count),
+            false => pieces(slot),
         }
-        text += &pieces(&slot[..64]);
-        text += &cells_of(&slot[64..], count);
-    }
-    or_dot(text + &pieces(behind))
+    })
 }
 
-/// A sheet: item by item up to the last that is used, with texts as such; then the bytes behind.
+/// A sheet: item by item, with texts as such.
 pub fn sheet(sheet: &[u8]) -> String {
-    let used = match sheet.get(8..10) {
-        Some(used) => usize::from(u16::from_le_bytes([used[0], used[1]])),
-        None => 0,
-    };
-    let (front, behind) = sheet.split_at((ITEM * (used + 1)).min(sheet.len()));
-    let mut text = String::new();
-    for item in front.chunks(ITEM) {
+    let used = sheet.get(8..10).map_or(0, number);
+    records(sheet, ITEM, used, |_, item| {
         // a text's length stands at 16, the text behind it
         let len = item.get(16).map_or(0, |len| usize::from(*len));
         match item.get(17..17 + len).and_then(|name| plain(name, b'>')) {
             Some(name) => {
-                text += &pieces(&item[..16]);
-                text += &format!("<{name}>");
-                text += &pieces(&item[17 + len..]);
+                let (front, behind) = (pieces(&item[..16]), pieces(&item[17 + len..]));
+                format!("{front}<{name}>{behind}")
             }
-            None => text += &pieces(item),
+            None => pieces(item),
         }
-    }
+    })
+}
+
+/// Records one by one, up to the last that is used; then the bytes behind.
+fn records(
+    bytes: &[u8],
+    size: usize,
+    used: usize,
+    shown: impl Fn(usize, &[u8]) -> String,
+) -> String {
+    let (front, behind) = bytes.split_at((size * (used + 1)).min(bytes.len()));
+    let records = front.chunks(size).enumerate();
+    let text: String = records.map(|(i, record)| shown(i, record)).collect();
     or_dot(text + &pieces(behind))
 }
 

@@ -11,36 +11,16 @@ pub struct Phones {
     pub onsets: &'static [&'static str],
 }
 
-/// Phones that are in no table, or nearly in one.
-const ODD: [&str; 24] = [
-    "",
-    "zz",
-    "ae1",
-    "ax0",
-    "ae2",
-    "t0",
-    "pau0",
-    "pau1",
-    "ng1",
-    "AE",
-    "Ax",
-    "PAU",
-    "NG",
-    "st",
-    "sk",
-    "a",
-    "e",
-    "au",
-    "pa",
-    "n",
-    "hh0",
-    "axrr",
-    "abcdefghijklmno",
-    "a-b",
-];
+/// Phones that are in no table, or nearly in one; the first is the empty one.
+const ODD: &str =
+    " zz ae1 ax0 ae2 t0 pau0 pau1 ng1 AE Ax PAU NG st sk a e au pa n hh0 axrr abcdefghijklmno a-b";
 
-impl Phones {
-    pub fn new() -> Phones {
+fn odd() -> Vec<&'static str> {
+    ODD.split(' ').collect()
+}
+
+impl Default for Phones {
+    fn default() -> Phones {
         let names = phoneset::probe::names();
         let (vowels, consonants) = names.iter().partition(|name| phoneset::is_vowel(name));
         Phones {
@@ -50,7 +30,9 @@ impl Phones {
             onsets: lexicon::probe::onsets(),
         }
     }
+}
 
+impl Phones {
     /// One phone, now and then an odd one.
     pub fn phone(&self, random: &mut Random) -> Vec<u8> {
         match random.weighted(&[6, 3, 2, 1]) {
@@ -61,7 +43,7 @@ impl Phones {
             ]
             .concat()
             .into(),
-            2 => random.pick(&ODD).into(),
+            2 => random.pick(&odd()).into(),
             _ => {
                 let len = random.between(0, 15);
                 (0..len).map(|_| random.below(128) as u8).collect()
@@ -84,7 +66,7 @@ impl Phones {
             phones.push(name.as_bytes()[1..].to_vec());
             phones.push([&b"x"[..], name.as_bytes()].concat());
         }
-        phones.extend(ODD.map(|phone| phone.into()));
+        phones.extend(odd().into_iter().map(Vec::from));
         for len in 0..=15 {
             phones.push(vec![b'0'; len]);
             phones.push(vec![b'1'; len]);
@@ -97,7 +79,7 @@ impl Phones {
     pub fn to_record(&self, random: &mut Random, cases: usize) -> Vec<Vec<u8>> {
         let mut phones: Vec<Vec<u8>> = vec![];
         phones.extend(self.names.iter().map(|name| name.as_bytes().to_vec()));
-        phones.extend(ODD.map(|phone| phone.into()));
+        phones.extend(odd().into_iter().map(Vec::from));
         phones.extend(["ax11", "0", "1", "00", "2", "ax10"].map(|phone| phone.into()));
         for (i, name) in self.names.iter().enumerate() {
             phones.push([name, ["0", "1", "1", "2"][i % 4]].concat().into());

@@ -67,4 +67,56 @@ impl Random {
         }
         unreachable!("the number is below the sum of the weights")
     }
+
+    /// A number from one of some ranges, both ends among them, each range as often as its weight says.
+    pub fn ranged(&mut self, ranges: &[(usize, usize, usize)]) -> usize {
+        let weights: Vec<usize> = ranges.iter().map(|range| range.0).collect();
+        let (_, low, high) = ranges[self.weighted(&weights)];
+        match low == high {
+            true => low,
+            false => self.between(low, high),
+        }
+    }
+
+    /// Puts a list in another order.
+    pub fn shuffle<T>(&mut self, list: &mut [T]) {
+        for i in (1..list.len()).rev() {
+            list.swap(i, self.between(0, i));
+        }
+    }
+}
+
+/// Something that serves some inputs before the next is made.
+pub struct Served<T> {
+    now: Option<T>,
+    left: usize,
+}
+
+impl<T> Default for Served<T> {
+    fn default() -> Served<T> {
+        Served { now: None, left: 0 }
+    }
+}
+
+impl<T> Served<T> {
+    /// What serves the next input; `make` also tells how many inputs a new one serves.
+    pub fn next(&mut self, make: impl FnOnce() -> (T, usize)) -> &mut T {
+        if self.left == 0 {
+            let (made, left) = make();
+            self.now = Some(made);
+            self.left = left;
+        }
+        self.left -= 1;
+        self.now()
+    }
+
+    /// What serves now, to be changed for the inputs to come.
+    pub fn now(&mut self) -> &mut T {
+        self.now.as_mut().expect("it is made by now")
+    }
+
+    /// Lets it serve no more than so many.
+    pub fn serve_at_most(&mut self, most: usize) {
+        self.left = self.left.min(most);
+    }
 }

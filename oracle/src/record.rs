@@ -1,6 +1,9 @@
 //! The recorded list: cases with the original's answers, for a program that has no Rust at hand.
 
-use crate::call::Expected;
+use crate::call::{Call, Expected};
+use crate::lent::Part;
+use crate::notation::{self, Form};
+use crate::ours::Answer;
 use crate::run::Compared;
 use std::collections::BTreeMap;
 use std::io;
@@ -15,17 +18,18 @@ const FILE_BYTES: usize = 60_000;
 
 /// Writes about so many cases, dealt among the calls, into files of a folder.
 pub fn write(calls: &[Box<dyn Compared>], folder: &str, seed: u64, count: usize) -> io::Result<()> {
-    let shares: usize = calls.iter().map(|call| call.share_recorded()).sum();
+    let shares: usize = calls.iter().map(|call| call.tally().share_recorded).sum();
     let command = format!("# Made by: oracle/run --record FOLDER --count {count} --seed {seed}");
     let head = format!("{HEAD}\n{command}\n\n");
     std::fs::create_dir_all(folder)?;
     for call in calls {
-        let lines = call.record((count * call.share_recorded()).div_ceil(shares));
+        let share = call.tally().share_recorded;
+        let lines = call.record((count * share).div_ceil(shares));
         if lines.is_empty() {
             continue;
         }
         for (number, text) in parts(&head, &lines).iter().enumerate() {
-            let name = format!("{folder}/{}-{}.txt", call.name(), number + 1);
+            let name = format!("{folder}/{}-{}.txt", call.tally().name, number + 1);
             std::fs::write(name, text)?;
         }
     }
@@ -55,33 +59,59 @@ fn parts(head: &str, lines: &[String]) -> Vec<String> {
     files
 }
 
-/// A case: the call, and what the original answers.
-pub fn case(shown: &str, expected: &Expected) -> String {
-    case_with_errors(shown, expected, &[])
+/// A line that fills a register.
+pub fn register(number: usize, form: Form, bytes: &[u8]) -> String {
+    format!("${number} {}", form.shown(bytes))
 }
 
-/// The same of a call for which the original has errors: these refusals.
-pub fn case_with_errors(shown: &str, expected: &Expected, errors: &[u32]) -> String {
+/// The lines that fill registers with what calls are lent.
+pub fn registers(first: usize, parts: &[Part]) -> Vec<String> {
+    let filled = (first..).zip(parts);
+    filled
+        .map(|(number, part)| register(number, part.form, &part.bytes))
+        .collect()
+}
+
+/// The names of these registers.
+pub fn named(registers: impl IntoIterator<Item = usize>) -> Vec<String> {
+    let registers = registers.into_iter();
+    registers.map(|number| format!("${number}")).collect()
+}
+
+/// A case up to what the call wrote: the call, whose first parts stand in `front`, and what the original answers.
+pub fn case<C: Call>(call: &C, input: &C::Input, front: &[String]) -> (String, Expected) {
+    let expected = call.expected(input);
+    let shown = notation::line(C::NAME, &call.lent(input), &expected.handed, front);
     let outcome = expected.outcome.as_ref().expect("the original answers");
-    let answer = outcome.answer;
-    let refusal = answer.refusal;
+    let Answer {
+        refusal,
+        kind,
+        value,
+        ..
+    } = outcome.answer;
     assert!(
-        expected.asked && (refusal == 0 || errors.contains(&refusal)),
+        expected.asked && (refusal == 0 || C::ERRORS.contains(&refusal)),
         "only what the original answers is recorded"
     );
-    format!("{shown} -> {refusal} {} {}", answer.kind, answer.value)
+    (format!("{shown} -> {refusal} {kind} {value}"), expected)
 }
 
-/// A case with an output, which is written out if the call altered it.
-pub fn case_with_output(
-    shown: &str,
-    expected: &Expected,
-    write: impl Fn(&[u8]) -> String,
-) -> String {
+/// A whole case; an output is written out if the call altered it.
+pub fn whole_case<C: Call>(call: &C, input: &C::Input, front: &[String]) -> String {
+    let (case, expected) = case(call, input, front);
     let outcome = expected.outcome.as_ref().expect("the original answers");
-    let output = match outcome.output == expected.handed {
-        true => "=".into(),
-        false => write(&outcome.output),
-    };
-    format!("{} {output}", case(shown, expected))
+    match (
+        expected.handed.is_empty(),
+        outcome.written == expected.handed,
+    ) {
+        (true, _) => case,
+        (false, true) => format!("{case} ="),
+        (false, false) => format!("{case} {}", call.show_written(input, outcome)),
+    }
+}
+
+/// Cases below a title, each with all that it is lent.
+pub fn cases<C: Call>(call: &C, title: &str, inputs: &[C::Input]) -> Vec<String> {
+    let cases = inputs.iter().map(|input| whole_case(call, input, &[]));
+    std::iter::once(format!("# {title}")).chain(cases).collect()
 }

@@ -25,21 +25,21 @@ pub struct Runner<C: Call> {
     tally: Tally,
 }
 
-impl<C: Call> Runner<C> {
-    pub fn new(call: C, seed: u64) -> Runner<C> {
-        Runner {
-            call,
+impl<C: Call + 'static> Runner<C> {
+    pub fn boxed(seed: u64) -> Box<dyn Compared> {
+        Box::new(Runner {
+            call: C::default(),
             random: Random::new(seed, C::NAME),
             seed,
-            tally: Tally::new(C::NAME, C::ANSWERS, &[&[C::MET], C::ALSO_MET].concat()),
-        }
+            tally: Tally::of::<C>(),
+        })
     }
 
     fn one(&mut self, input: C::Input) -> Result<(), String> {
         match compare(&self.call, &input) {
             Ok(expected) => {
                 let asked = expected.asked;
-                self.tally.add(asked, expected.row, &expected.met);
+                self.tally.add(asked, &expected.row, &expected.met);
                 Ok(())
             }
             Err(difference) => Err(self.told(&input, &difference)),
@@ -64,26 +64,25 @@ impl<C: Call> Runner<C> {
     fn both(&self, input: &C::Input, difference: &Difference) -> String {
         let expected = &difference.expected;
         let wanted = match &expected.outcome {
-            Ok(outcome) => self.outcome(outcome),
+            Ok(outcome) => self.outcome(input, outcome),
             Err(why) => why.clone(),
         };
         let by = if expected.asked { "the Rust" } else { "01" };
         let first = match &expected.outcome {
-            Ok(outcome) => first_difference(&outcome.output, &difference.ours.output),
+            Ok(outcome) => first_difference(&outcome.written, &difference.ours.written),
             Err(_) => String::new(),
         };
         format!(
             "  {}\n  {by:<9} {wanted}\n  ours      {}{first}",
             clipped(self.call.show(input, &expected.handed)),
-            self.outcome(&difference.ours),
+            self.outcome(input, &difference.ours),
         )
     }
 
-    fn outcome(&self, outcome: &Outcome) -> String {
+    fn outcome(&self, input: &C::Input, outcome: &Outcome) -> String {
         let a = outcome.answer;
-        let altered = outcome
-            .altered
-            .map_or(String::new(), |what| format!(", altered {what}"));
+        let altered = outcome.altered.as_ref();
+        let altered = altered.map_or(String::new(), |what| format!(", altered {what}"));
         let rest = match (a.second, a.third) {
             (0, 0) => String::new(),
             (second, third) => format!(", second {second}, third {third}"),
@@ -93,14 +92,15 @@ impl<C: Call> Runner<C> {
             a.refusal,
             a.kind,
             a.value,
-            clipped(self.call.show_output(&outcome.output)),
+            clipped(self.call.show_written(input, outcome)),
         )
     }
 }
 
 /// Where two outputs differ first, if they do.
-fn first_difference(wanted: &[u8], ours: &[u8]) -> String {
-    let pairs = wanted.iter().zip(ours).enumerate();
+fn first_difference(wanted: &[Vec<u8>], ours: &[Vec<u8>]) -> String {
+    let (wanted, ours) = (wanted.concat(), ours.concat());
+    let pairs = wanted.iter().zip(&ours).enumerate();
     match pairs.into_iter().find(|(_, (wanted, ours))| wanted != ours) {
         Some((at, (wanted, ours))) => {
             format!("\n  first at  byte {at} of the output: {wanted:02x}, ours {ours:02x}")
@@ -122,14 +122,11 @@ fn clipped(line: String) -> String {
 pub trait Compared {
     fn short(&mut self) -> Result<(), String>;
     fn random(&mut self, calls: usize) -> Result<(), String>;
-    fn share(&self) -> usize;
-    fn share_recorded(&self) -> usize;
-    fn name(&self) -> &'static str;
     fn tally(&self) -> &Tally;
     fn record(&self, cases: usize) -> Vec<String>;
 }
 
-impl<C: Call> Compared for Runner<C> {
+impl<C: Call + 'static> Compared for Runner<C> {
     fn short(&mut self) -> Result<(), String> {
         self.call.short().into_iter().try_for_each(|i| self.one(i))
     }
@@ -140,18 +137,6 @@ impl<C: Call> Compared for Runner<C> {
             self.one(input)?;
         }
         Ok(())
-    }
-
-    fn share(&self) -> usize {
-        C::SHARE
-    }
-
-    fn share_recorded(&self) -> usize {
-        C::SHARE_RECORDED
-    }
-
-    fn name(&self) -> &'static str {
-        C::NAME
     }
 
     fn tally(&self) -> &Tally {
@@ -168,7 +153,7 @@ impl<C: Call> Compared for Runner<C> {
 /// Compares until the limit; a difference ends it.
 pub fn run(calls: &mut [Box<dyn Compared>], limit: Limit) -> Result<(), String> {
     let started = Instant::now();
-    let all_shares: usize = calls.iter().map(|call| call.share()).sum();
+    let all_shares: usize = calls.iter().map(|call| call.tally().share).sum();
     for call in calls.iter_mut() {
         call.short()?;
     }
@@ -187,7 +172,7 @@ pub fn run(calls: &mut [Box<dyn Compared>], limit: Limit) -> Result<(), String> 
         let mut dealt = 0;
         let mut shares = 0;
         for call in calls.iter_mut() {
-            shares += call.share();
+            shares += call.tally().share;
             let part = round * shares / all_shares - dealt;
             call.random(part)?;
             dealt += part;

@@ -1,10 +1,9 @@
 //! A lexicon beside a store, and the original with the same runtime entries.
 
 use crate::forever::{hold_texts, Held};
-use crate::lexicons::Lexicon;
-use crate::stores::{self, Entry, Placed};
-use original::lexicon::{self, probe};
-use std::rc::Rc;
+use crate::prelude::*;
+use crate::stores::Placed;
+use original::lexicon::probe;
 
 /// What lookup and both adds are given.
 pub struct Scene {
@@ -16,16 +15,27 @@ pub struct Scene {
     pub entries: Result<Vec<Placed>, &'static str>,
 }
 
-/// An entry to be added, its word and tag as they are handed in.
+/// An entry to be added: its word, its tag and its phones, as they are handed in.
 #[derive(Clone)]
 pub struct Add {
-    pub word: Vec<u8>,
-    pub tag: Vec<u8>,
-    pub phones: Vec<Vec<u8>>,
+    pub wanted: Wanted,
+    pub phones: List,
 }
 
+smaller!(Add: wanted, phones);
+
+impl Add {
+    pub fn parts(&self) -> Vec<Part<'_>> {
+        let wanted = self.wanted.parts().into_iter();
+        wanted.chain([self.phones.part()]).collect()
+    }
+}
+
+/// The word and the tag of an entry.
+pub type Key = (Vec<u8>, u8);
+
 /// The word and the tag that an entry gets: the word folded; "0" for no tag and for "nil".
-pub fn key(word: &[u8], tag: &[u8]) -> (Vec<u8>, u8) {
+pub fn key(word: &[u8], tag: &[u8]) -> Key {
     let tag = match tag {
         b"" | b"nil" => b'0',
         tag => tag[0],
@@ -81,6 +91,12 @@ impl Scene {
         Rc::new(Scene::new(lexicon, self.store.clone()))
     }
 
+    /// The phone table of the lexicon, which is all that adding takes of it.
+    pub fn table_part(&self) -> Part<'_> {
+        let [table, ..] = self.lexicon.sections.parts();
+        table
+    }
+
     /// The original with the store's entries, where store and sections are accepted.
     pub fn original(&self) -> &lexicon::Lexicon {
         let held = self.original.as_ref();
@@ -101,7 +117,7 @@ impl Scene {
 
     /// The store when the original's list has become this one by adds of these keys: a known key keeps
     /// its slot, a new one takes the next, and the chain is the list's order.
-    pub fn store_of(&self, keys: &[(Vec<u8>, u8)], list: &[Entry]) -> Result<Vec<u8>, String> {
+    pub fn store_of(&self, keys: &[Key], list: &[Entry]) -> Result<Vec<u8>, String> {
         let mut slots = self.slots();
         for key in keys {
             if slots.iter().all(|(known, _)| known != key) {
@@ -129,7 +145,7 @@ impl Scene {
     }
 
     /// The keys of the store, with their slots.
-    fn slots(&self) -> Vec<((Vec<u8>, u8), usize)> {
+    fn slots(&self) -> Vec<(Key, usize)> {
         let slot = |placed: &Placed| {
             let (word, tag) = placed.entry.key();
             ((word.to_vec(), tag), placed.slot)
@@ -137,8 +153,13 @@ impl Scene {
         self.entries().iter().map(slot).collect()
     }
 
+    /// The keys of the store, the oldest first.
+    pub fn keys(&self) -> Vec<Key> {
+        self.slots().into_iter().map(|(key, _)| key).collect()
+    }
+
     /// The slot that an entry of this key has, or would get.
-    pub fn slot_for(&self, key: &(Vec<u8>, u8)) -> usize {
+    pub fn slot_for(&self, key: &Key) -> usize {
         let slots = self.slots();
         let known = slots.iter().find(|(known, _)| known == key);
         known.map_or(slots.len() + 1, |(_, slot)| *slot)
@@ -147,25 +168,36 @@ impl Scene {
     /// The store grown by adds, which the original makes; those without room are left out.
     pub fn grown(&self, adds: &[Add]) -> Vec<u8> {
         let mut keys = vec![];
-        let mut known: Vec<_> = self.slots().into_iter().map(|(key, _)| key).collect();
+        let mut known = self.keys();
         let (_, list) = self.changed(|lexicon| {
             for add in adds {
-                let key = key(&add.word, &add.tag);
+                let Wanted { word, tag } = &add.wanted;
+                let key = key(word, tag);
                 if !known.contains(&key) {
                     if known.len() == stores::room(&self.store) {
                         continue;
                     }
                     known.push(key.clone());
                 }
-                let phones: Vec<&str> = add.phones.iter().map(|p| ascii(p)).collect();
+                let phones: Vec<&str> = add.phones.texts().into_iter().map(ascii).collect();
                 lexicon
-                    .add_entry(ascii(&add.word), Some(ascii(&add.tag)), &phones)
+                    .add_entry(ascii(word), Some(ascii(tag)), &phones)
                     .expect("the phones are known");
                 keys.push(key);
             }
         });
         self.store_of(&keys, &list)
             .expect("the original adds what 01 says")
+    }
+}
+
+impl Shrink for Rc<Scene> {
+    fn smaller(&self) -> Vec<Rc<Scene>> {
+        let lexicons = self.lexicon.smaller().into_iter();
+        let lexicons = lexicons.map(|lexicon| self.with_lexicon(&lexicon));
+        let stores = store_shapes::smaller(&self.store).into_iter();
+        let stores = stores.map(|store| self.with_store(store));
+        lexicons.chain(stores).collect()
     }
 }
 

@@ -1,5 +1,6 @@
 //! Sheets for the short inputs: every small one, and sheets at 01's limits and just past them.
 
+use crate::records;
 use crate::sheets::{self, Placed, ITEM, LARGEST};
 use crate::spoken::{Syllable, Word};
 
@@ -35,7 +36,7 @@ pub fn in_order(words: &[Word]) -> Vec<Placed> {
 
 /// A sheet of these words, with so many bytes behind them, which are all this one.
 pub fn sheet(placed: &[Placed], behind: usize, fill: u8) -> Vec<u8> {
-    let used: usize = placed.iter().map(|placed| placed.items.len()).sum();
+    let used = sheets::used(placed);
     sheets::write(&vec![fill; ITEM * (used + 1) + behind], placed)
 }
 
@@ -46,10 +47,8 @@ pub fn good() -> Vec<u8> {
         word(",", &[]),
         word("Extra", &["1 eh k", "0 s t r ax"]),
     ]);
-    let used: usize = placed.iter().map(|placed| placed.items.len()).sum();
-    for item in placed.iter_mut().flat_map(|placed| &mut placed.items) {
-        *item = used + 1 - *item;
-    }
+    let used = sheets::used(&placed);
+    sheets::renumber(&mut placed, |item| used + 1 - item);
     sheet(&placed, 2 * ITEM + 10, 0xb7)
 }
 
@@ -60,35 +59,8 @@ pub fn smallest() -> Vec<u8> {
 
 /// The good sheet with each of its bytes altered.
 pub fn altered_bytes() -> Vec<Vec<u8>> {
-    let good = good();
-    let mut all = vec![];
-    for at in 0..good.len() {
-        let byte = good[at];
-        for value in [
-            0,
-            1,
-            2,
-            3,
-            15,
-            16,
-            47,
-            48,
-            49,
-            50,
-            255,
-            byte ^ 1,
-            byte.wrapping_add(1),
-        ] {
-            // many values only where there are fields
-            if value == byte || at % ITEM > 22 && value > 2 {
-                continue;
-            }
-            let mut sheet = good.clone();
-            sheet[at] = value;
-            all.push(sheet);
-        }
-    }
-    all
+    let values = [0, 1, 2, 3, 15, 16, 47, 48, 49, 50, 255];
+    records::altered(&good(), ITEM, 22, &values)
 }
 
 /// The smallest sheet with every value in each of its bytes.
@@ -142,12 +114,10 @@ pub fn small() -> Vec<Vec<u8>> {
     let mut all = vec![];
     for (i, words) in words.iter().enumerate() {
         let placed = in_order(words);
-        let used: usize = placed.iter().map(|placed| placed.items.len()).sum();
+        let used = sheets::used(&placed);
         let renumbered = |number: &dyn Fn(usize) -> usize| {
             let mut placed = placed.clone();
-            for item in placed.iter_mut().flat_map(|placed| &mut placed.items) {
-                *item = number(*item);
-            }
+            sheets::renumber(&mut placed, number);
             placed
         };
         all.push(sheet(&placed, 0, 0));
@@ -282,19 +252,18 @@ fn unsound() -> Vec<Vec<u8>> {
     all
 }
 
-/// What a sound sheet has, for the table.
-pub fn features(sheet: &[u8], words: &[Placed]) -> Vec<&'static str> {
-    let items = words.iter().flat_map(|placed| placed.items.iter().copied());
-    let ordered = (1..).zip(items).all(|(at, item)| at == item);
-    let unused = &sheet[sheets::unused(sheet)..];
-    let rows = [
-        ("sheet without words", words.is_empty()),
-        ("sheet in another order than its items", !ordered),
-        ("sheet of 64 bytes", sheet.len() == ITEM),
-        ("sheet of 65,536 bytes", sheet.len() == LARGEST),
-        ("bytes behind the last whole item", sheet.len() % ITEM != 0),
-        ("anything in unused items", unused.iter().any(|b| *b != 0)),
-    ];
-    let met = rows.iter().filter(|row| row.1);
-    met.map(|row| row.0).collect()
+rows! { pub SHEET:
+    /// What a sound sheet has.
+    features(sheet: &[u8], words: &[Placed]) {
+        let items = words.iter().flat_map(|placed| placed.items.iter().copied());
+        let ordered = (1..).zip(items).all(|(at, item)| at == item);
+        let unused = &sheet[sheets::unused(sheet)..];
+    } [
+        "sheet without words" => words.is_empty(),
+        "sheet in another order than its items" => !ordered,
+        "sheet of 64 bytes" => sheet.len() == ITEM,
+        "sheet of 65,536 bytes" => sheet.len() == LARGEST,
+        "bytes behind the last whole item" => sheet.len() % ITEM != 0,
+        "anything in unused items" => !records::zeros(unused),
+    ]
 }

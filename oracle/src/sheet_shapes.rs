@@ -1,18 +1,17 @@
 //! Sheets of many shapes, and ways to damage them.
 
-use crate::phones::Phones;
-use crate::random::Random;
+use crate::prelude::*;
+use crate::records::put;
 use crate::sheet_edges::{in_order, sheet};
-use crate::sheets::{self, Placed, ITEM, LARGEST};
-use crate::shrink;
+use crate::sheets::LARGEST;
 use crate::spoken::{Syllable, Word};
-use crate::words;
 
-/// Words of any shape; their cuts and phones need not be those of any rule.
-pub fn words(random: &mut Random, phones: &Phones, most: usize) -> Vec<Word> {
-    let mut left = most;
+/// Words of any shape that have room in so many items, all that have it if no count is given. Their cuts and phones
+/// need not be those of any rule.
+fn words(random: &mut Random, phones: &Phones, count: Option<usize>, items: usize) -> Vec<Word> {
+    let mut left = items;
     let mut words = vec![];
-    for _ in 0..random.weighted(&[2, 6, 4, 3, 2, 1, 1]) {
+    while count.map_or(left > 0, |count| words.len() < count) {
         let word = word(random, phones);
         if word.items() > left {
             break;
@@ -39,33 +38,20 @@ fn word(random: &mut Random, phones: &Phones) -> Word {
     }
 }
 
-/// As many words as there is room for in so many items.
-fn many(random: &mut Random, phones: &Phones, items: usize) -> Vec<Word> {
-    let mut left = items;
-    let mut words = vec![];
-    while left > 0 {
-        let word = word(random, phones);
-        if word.items() > left {
-            break;
-        }
-        left -= word.items();
-        words.push(word);
-    }
-    words
-}
-
 /// A sound sheet with so many unused items, or as many as there is room for.
 pub fn random(random: &mut Random, phones: &Phones, unused: usize) -> Vec<u8> {
     let most = (LARGEST / ITEM - 1).saturating_sub(unused);
-    let words = match random.weighted(&[60, 1]) {
-        0 => words(random, phones, most),
-        _ => many(random, phones, most),
+    let count = match random.weighted(&[60, 1]) {
+        0 => Some(random.weighted(&[2, 6, 4, 3, 2, 1, 1])),
+        _ => None,
     };
-    let mut placed = in_order(&words);
+    let mut placed = in_order(&words(random, phones, count, most));
+    let used = sheets::used(&placed);
     if random.once_in(3) {
-        renumber(random, &mut placed);
+        let mut numbers: Vec<usize> = (1..=used).collect();
+        random.shuffle(&mut numbers);
+        sheets::renumber(&mut placed, |item| numbers[item - 1]);
     }
-    let used: usize = placed.iter().map(|placed| placed.items.len()).sum();
     let more = match random.weighted(&[4, 2, 3]) {
         0 => 0,
         1 => ITEM - 1,
@@ -75,29 +61,9 @@ pub fn random(random: &mut Random, phones: &Phones, unused: usize) -> Vec<u8> {
     let fill = random.byte() * u8::from(random.once_in(2));
     let mut sheet = sheet(&placed, behind, fill);
     if random.once_in(3) {
-        spoil_unused(random, &mut sheet);
+        records::spoil(random, &mut sheet, ITEM * (used + 1));
     }
     sheet
-}
-
-/// The same words in other items.
-fn renumber(random: &mut Random, placed: &mut [Placed]) {
-    let used: usize = placed.iter().map(|placed| placed.items.len()).sum();
-    let mut numbers: Vec<usize> = (1..=used).collect();
-    for i in (1..used).rev() {
-        numbers.swap(i, random.between(0, i));
-    }
-    for item in placed.iter_mut().flat_map(|placed| &mut placed.items) {
-        *item = numbers[*item - 1];
-    }
-}
-
-/// Fills the bytes behind the used items.
-pub fn spoil_unused(random: &mut Random, sheet: &mut [u8]) {
-    let from = sheets::unused(sheet);
-    for byte in &mut sheet[from..] {
-        *byte = random.byte();
-    }
 }
 
 /// The lengths of sheets that lists of calls work on.
@@ -120,8 +86,7 @@ pub fn damaged(random: &mut Random, sheet: &[u8]) -> Vec<u8> {
     let items = sheet.len() / ITEM;
     let used = sheets::unused(&sheet) / ITEM - 1;
     let link = |random: &mut Random| {
-        let link = [random.below(used + 2), items, 256, 65_535][random.weighted(&[20, 1, 1, 1])];
-        (link as u16).to_le_bytes()
+        [random.below(used + 2), items, 256, 65_535][random.weighted(&[20, 1, 1, 1])]
     };
     let item = ITEM * random.between(usize::from(used > 0), used);
     match random.below(17) {
@@ -133,12 +98,12 @@ pub fn damaged(random: &mut Random, sheet: &[u8]) -> Vec<u8> {
         2 | 3 => {
             // a field of item 0
             let field = random.pick(&[&4_usize, &6, &8, &10, &12]);
-            sheet[*field..field + 2].copy_from_slice(&link(random));
+            put(&mut sheet, *field, link(random));
         }
         4 | 5 => {
             // a link of any item
             let field = item + 2 * random.between(1, 6);
-            sheet[field..field + 2].copy_from_slice(&link(random));
+            put(&mut sheet, field, link(random));
         }
         6 => {
             // two links exchanged
@@ -165,7 +130,12 @@ pub fn damaged(random: &mut Random, sheet: &[u8]) -> Vec<u8> {
             sheet[item + 17..item + end].fill(b'x');
         }
         14 => return with_empty_syllable(random, &sheet),
-        15 if used + 1 < items => in_place_of(&mut sheet, item / ITEM, used + 1),
+        15 if used + 1 < items => {
+            let links = |item| [2, 4, 6, 8, 10, 12].map(|link| ITEM * item + link);
+            // item 0's number of used items is no link
+            let links = (0..=used + 1).flat_map(links).filter(|at| *at != 8);
+            records::in_place_of(&mut sheet, ITEM, [item / ITEM, used + 1], links);
+        }
         _ => {
             let at = random.below(sheet.len());
             sheet[at] ^= 1 << random.below(8);
@@ -189,98 +159,31 @@ fn with_empty_syllable(random: &mut Random, sheet: &[u8]) -> Vec<u8> {
     sheets::write(sheet, &in_order(&words))
 }
 
-/// An unused item in the place of a used one, whose fields and links it gets.
-fn in_place_of(sheet: &mut [u8], item: usize, unused: usize) {
-    sheet.copy_within(ITEM * item..ITEM * (item + 1), ITEM * unused);
-    for at in (0..=unused).flat_map(|item| [2, 4, 6, 8, 10, 12].map(|link| ITEM * item + link)) {
-        // item 0's number of used items is no link
-        if at != 8 && sheet[at..at + 2] == (item as u16).to_le_bytes() {
-            sheet[at..at + 2].copy_from_slice(&(unused as u16).to_le_bytes());
-        }
-    }
-}
-
 /// Sound sheets with something left out, for shrinking; of an unsound one, with bytes made zero.
 pub fn smaller(sheet: &[u8]) -> Vec<Vec<u8>> {
     let Ok(placed) = sheets::read(sheet) else {
-        return plainer_bytes(sheet);
+        return records::plainer(sheet, ITEM, 24);
     };
     let from = sheets::unused(sheet);
     let mut all = vec![];
-    for len in [
-        from,
-        from + ITEM - 1,
-        from + ITEM,
-        sheet.len() - sheet.len() % ITEM,
-    ] {
-        if len < sheet.len() {
-            all.push(sheet[..len].to_vec());
-        }
-    }
+    let whole = sheet.len() - sheet.len() % ITEM;
+    let lengths = [from, from + ITEM - 1, from + ITEM, whole];
+    let shorter = lengths.into_iter().filter(|len| *len < sheet.len());
+    all.extend(shorter.map(|len| sheet[..len].to_vec()));
     if sheet.len() >= from + 2 * ITEM {
         all.push(sheet[..sheet.len() - ITEM].to_vec());
     }
-    if sheet[from..].iter().any(|b| *b != 0) {
-        all.push([&sheet[..from], &vec![0; sheet.len() - from]].concat());
-    }
+    let zeroed = records::zeroed(&sheet[from..]).into_iter();
+    all.extend(zeroed.map(|behind| [&sheet[..from], &behind].concat()));
     // the items of words that are left out become unused
     let rewritten = |words: &[Word]| sheets::write(sheet, &in_order(words));
     let words: Vec<Word> = placed.iter().map(|placed| placed.word.clone()).collect();
     if in_order(&words) != placed {
         all.push(rewritten(&words));
     }
-    for kept in shrink::shorter(&words) {
-        all.push(rewritten(&kept));
-    }
-    for (i, word) in words.iter().enumerate().take(8) {
-        for plainer in plainer_words(word) {
-            let mut words = words.clone();
-            words[i] = plainer;
-            all.push(rewritten(&words));
-        }
-    }
-    all
-}
-
-fn plainer_words(word: &Word) -> Vec<Word> {
-    let mut all = vec![];
-    for syllables in shrink::shorter(&word.syllables) {
-        all.push(Word {
-            syllables,
-            ..word.clone()
-        });
-    }
-    for (i, syllable) in word.syllables.iter().enumerate() {
-        for phones in shrink::shorter(&syllable.phones) {
-            let mut word = word.clone();
-            word.syllables[i].phones = phones;
-            all.push(word);
-        }
-    }
-    for text in shrink::shorter(&word.text) {
-        all.push(Word {
-            text,
-            ..word.clone()
-        });
-    }
-    all.retain(|word| word.syllables.iter().all(|s| !s.phones.is_empty()));
-    all
-}
-
-fn plainer_bytes(sheet: &[u8]) -> Vec<Vec<u8>> {
-    let mut all = shrink::shorter(sheet);
-    all.truncate(64);
-    for items in 0..sheet.len() / ITEM {
-        all.push(sheet[..ITEM * items].to_vec());
-    }
-    let parts = shrink::parts(sheet.len()).into_iter();
-    let single = (0..sheet.len().min(24 * ITEM)).map(|at| at..at + 1);
-    for part in parts.chain(single) {
-        if sheet[part.clone()].iter().any(|b| *b != 0) {
-            let mut sheet = sheet.to_vec();
-            sheet[part].fill(0);
-            all.push(sheet);
-        }
-    }
+    let mut fewer = words.smaller();
+    let has_phones = |word: &Word| word.syllables.iter().all(|s| !s.phones.is_empty());
+    fewer.retain(|words| words.iter().all(has_phones));
+    all.extend(fewer.iter().map(|words| rewritten(words)));
     all
 }

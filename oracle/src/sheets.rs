@@ -1,5 +1,6 @@
 //! The sheet: 01's layout, read and written by the driver itself.
 
+use crate::records::{ensure, number, put, zeros};
 use crate::spoken::{Syllable, Word};
 use crate::words;
 
@@ -70,17 +71,14 @@ pub fn has_length(len: usize) -> bool {
 
 /// The words of a sound sheet; of any other sheet, what is amiss.
 pub fn read(sheet: &[u8]) -> Result<Vec<Placed>, &'static str> {
-    if !has_length(sheet.len()) {
-        return Err("sheet: wrong length");
-    }
+    ensure(has_length(sheet.len()), "sheet: wrong length")?;
     let items: Vec<&[u8]> = sheet.chunks_exact(ITEM).collect();
     let used = number(&items[0][USED..]);
-    if !zeros(&items[0][..FIRST]) || !zeros(&items[0][LINKS_END..]) {
-        return Err("sheet: bytes beside item 0's fields");
-    }
-    if used >= items.len() {
-        return Err("sheet: more used than there are items");
-    }
+    ensure(
+        zeros(&items[0][..FIRST]) && zeros(&items[0][LINKS_END..]),
+        "sheet: bytes beside item 0's fields",
+    )?;
+    ensure(used < items.len(), "sheet: more used than there are items")?;
     let mut tree = Tree {
         seen: vec![false; used + 1],
         items,
@@ -92,9 +90,7 @@ pub fn read(sheet: &[u8]) -> Result<Vec<Placed>, &'static str> {
         let mut syllables = vec![];
         for at in tree.children(at, SYLLABLE)? {
             let below = tree.children(at, PHONE)?;
-            if below.is_empty() {
-                return Err("sheet: syllable without a phone");
-            }
+            ensure(!below.is_empty(), "sheet: syllable without a phone")?;
             let texts: Result<_, _> = below.iter().map(|at| read_phone(tree.items[*at])).collect();
             syllables.push(Syllable {
                 stress: read_syllable(tree.items[at])?,
@@ -108,18 +104,21 @@ pub fn read(sheet: &[u8]) -> Result<Vec<Placed>, &'static str> {
         let word = Word { text, syllables };
         words.push(Placed { word, items });
     }
-    if tree.seen[1..].contains(&false) {
-        return Err("sheet: used item that no link reaches");
-    }
+    ensure(
+        !tree.seen[1..].contains(&false),
+        "sheet: used item that no link reaches",
+    )?;
     // item 0 stands before the first phone and behind the last
     let ring: Vec<usize> = [&[0], &phones[..], &[0]].concat();
     for pair in ring.windows(2) {
-        if number(&tree.items[pair[0]][BEHIND..]) != pair[1] {
-            return Err("sheet: phones forwards in another order");
-        }
-        if number(&tree.items[pair[1]][BEFORE..]) != pair[0] {
-            return Err("sheet: phones backwards in another order");
-        }
+        ensure(
+            number(&tree.items[pair[0]][BEHIND..]) == pair[1],
+            "sheet: phones forwards in another order",
+        )?;
+        ensure(
+            number(&tree.items[pair[1]][BEFORE..]) == pair[0],
+            "sheet: phones backwards in another order",
+        )?;
     }
     Ok(words)
 }
@@ -142,15 +141,12 @@ impl Tree<'_> {
                 Some(seen) => *seen = true,
             }
             let item = self.items[at];
-            if item[0] != kind {
-                return Err("sheet: wrong kind");
-            }
-            if number(&item[PARENT..]) != parent {
-                return Err("sheet: wrong parent");
-            }
-            if !zeros(&item[LINKS_END..LEN]) {
-                return Err("sheet: bytes 14 and 15 of an item");
-            }
+            ensure(item[0] == kind, "sheet: wrong kind")?;
+            ensure(number(&item[PARENT..]) == parent, "sheet: wrong parent")?;
+            ensure(
+                zeros(&item[LINKS_END..LEN]),
+                "sheet: bytes 14 and 15 of an item",
+            )?;
             children.push(at);
             at = number(&item[NEXT..]);
         }
@@ -163,22 +159,18 @@ impl Tree<'_> {
 }
 
 fn read_word(item: &[u8]) -> Result<Vec<u8>, &'static str> {
-    if item[STRESS] != 0 {
-        return Err("sheet: stress of a word or a phone");
-    }
-    if !zeros(&item[BEFORE..LINKS_END]) {
-        return Err("sheet: phone links of a word or a syllable");
-    }
-    read_text(item, words::LONGEST).ok_or("sheet: word over 47 bytes")?
+    has_no_phone_links(item)?;
+    read_text(item, words::LONGEST, "sheet: word over 47 bytes")
+}
+
+fn has_no_phone_links(item: &[u8]) -> Result<(), &'static str> {
+    let links = &item[BEFORE..LINKS_END];
+    ensure(zeros(links), "sheet: phone links of a word or a syllable")
 }
 
 fn read_syllable(item: &[u8]) -> Result<u8, &'static str> {
-    if !zeros(&item[BEFORE..LINKS_END]) {
-        return Err("sheet: phone links of a word or a syllable");
-    }
-    if !zeros(&item[LEN..]) {
-        return Err("sheet: syllable with a text");
-    }
+    has_no_phone_links(item)?;
+    ensure(zeros(&item[LEN..]), "sheet: syllable with a text")?;
     match item[STRESS] {
         stress @ (b'0' | b'1') => Ok(stress),
         _ => Err("sheet: stress that is neither 48 nor 49"),
@@ -186,27 +178,19 @@ fn read_syllable(item: &[u8]) -> Result<u8, &'static str> {
 }
 
 fn read_phone(item: &[u8]) -> Result<Vec<u8>, &'static str> {
-    if item[STRESS] != 0 {
-        return Err("sheet: stress of a word or a phone");
-    }
-    if !zeros(&item[FIRST..PARENT]) {
-        return Err("sheet: child of a phone");
-    }
-    read_text(item, LONGEST_PHONE).ok_or("sheet: phone over 15 bytes")?
+    ensure(zeros(&item[FIRST..PARENT]), "sheet: child of a phone")?;
+    read_text(item, LONGEST_PHONE, "sheet: phone over 15 bytes")
 }
 
-/// The text of an item, or what is amiss with it; none if it is too long.
-fn read_text(item: &[u8], longest: usize) -> Option<Result<Vec<u8>, &'static str>> {
+/// The text of a word or a phone, or what is amiss with it.
+fn read_text(item: &[u8], longest: usize, too_long: &'static str) -> Result<Vec<u8>, &'static str> {
     let len = usize::from(item[LEN]);
-    if len > longest {
-        return None;
-    }
+    ensure(item[STRESS] == 0, "sheet: stress of a word or a phone")?;
+    ensure(len <= longest, too_long)?;
     let (text, past) = item[TEXT..].split_at(len);
-    Some(match (text.is_ascii(), zeros(past)) {
-        (false, _) => Err("sheet: text with a high byte"),
-        (_, false) => Err("sheet: bytes past a text"),
-        _ => Ok(text.to_vec()),
-    })
+    ensure(text.is_ascii(), "sheet: text with a high byte")?;
+    ensure(zeros(past), "sheet: bytes past a text")?;
+    Ok(text.to_vec())
 }
 
 /// An item before it is written.
@@ -236,7 +220,7 @@ impl Item<'_> {
             (BEFORE, self.before),
             (BEHIND, self.behind),
         ] {
-            item[field..field + 2].copy_from_slice(&(value as u16).to_le_bytes());
+            put(item, field, value);
         }
         item[LEN] = self.text.len() as u8;
         item[TEXT..TEXT + self.text.len()].copy_from_slice(self.text);
@@ -268,7 +252,7 @@ pub fn write(sheet: &[u8], placed: &[Placed]) -> Vec<u8> {
     let at = |list: &[usize], i: usize| *list.get(i).unwrap_or(&0);
     Item {
         children: &words,
-        parent: placed.iter().map(|placed| placed.items.len()).sum(),
+        parent: used(placed),
         before: *phones.last().unwrap_or(&0),
         behind: at(&phones, 0),
         ..Item::default()
@@ -317,7 +301,7 @@ pub fn write(sheet: &[u8], placed: &[Placed]) -> Vec<u8> {
 /// The sheet with one more word, whose items are the next ones in their order. The driver checks itself: its
 /// reader must find what it wrote, and no byte may differ that the word has no part in.
 pub fn with_word(sheet: &[u8], before: &[Placed], word: &Word) -> Vec<u8> {
-    let used: usize = before.iter().map(|placed| placed.items.len()).sum();
+    let used = used(before);
     let mut words = before.to_vec();
     words.push(Placed {
         word: word.clone(),
@@ -348,6 +332,18 @@ pub fn with_word(sheet: &[u8], before: &[Placed], word: &Word) -> Vec<u8> {
         "the driver writes a byte that the word has no part in"
     );
     after
+}
+
+/// How many items these words have.
+pub fn used(placed: &[Placed]) -> usize {
+    placed.iter().map(|placed| placed.items.len()).sum()
+}
+
+/// The same words in other items.
+pub fn renumber(placed: &mut [Placed], number: impl Fn(usize) -> usize) {
+    for item in placed.iter_mut().flat_map(|placed| &mut placed.items) {
+        *item = number(*item);
+    }
 }
 
 /// A new sheet over some bytes.
@@ -435,12 +431,4 @@ pub fn reading(sheet: &[u8]) -> Option<Reading> {
         forwards: texts(&chain(field(0, BEHIND), BEHIND)?)?,
         backwards: texts(&chain(field(0, BEFORE), BEFORE)?)?,
     })
-}
-
-fn zeros(bytes: &[u8]) -> bool {
-    bytes.iter().all(|b| *b == 0)
-}
-
-fn number(bytes: &[u8]) -> usize {
-    usize::from(u16::from_le_bytes([bytes[0], bytes[1]]))
 }

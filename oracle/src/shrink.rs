@@ -31,7 +31,7 @@ fn step<C: Call>(
     tries: &mut usize,
     started: Instant,
 ) -> Option<(C::Input, Box<Difference>)> {
-    for candidate in call.smaller(input) {
+    for candidate in input.smaller() {
         *tries += 1;
         if *tries > TRIES || started.elapsed() > TIME {
             return None;
@@ -76,4 +76,58 @@ pub fn shorter<T: Clone>(list: &[T]) -> Vec<Vec<T>> {
         .iter()
         .map(|part| without(list, part))
         .collect()
+}
+
+/// Something of which there are smaller ones, to find out what a difference needs.
+pub trait Shrink: Clone {
+    /// The same with something left out, the boldest first.
+    fn smaller(&self) -> Vec<Self>;
+}
+
+impl Shrink for u8 {
+    fn smaller(&self) -> Vec<u8> {
+        vec![]
+    }
+}
+
+/// Parts are left out of a list, and its first elements made smaller.
+impl<T: Shrink> Shrink for Vec<T> {
+    fn smaller(&self) -> Vec<Vec<T>> {
+        let elements = self.iter().enumerate().take(16);
+        let smaller = elements.flat_map(|(i, one)| one.smaller().into_iter().map(move |s| (i, s)));
+        let plainer = with(self, smaller, |list, (i, smaller)| list[i] = smaller);
+        [shorter(self), plainer].concat()
+    }
+}
+
+/// A thing with each of these in the place of what it has.
+pub fn with<I: Clone, T>(
+    input: &I,
+    others: impl IntoIterator<Item = T>,
+    put: impl Fn(&mut I, T),
+) -> Vec<I> {
+    let made = |other: T| {
+        let mut input = input.clone();
+        put(&mut input, other);
+        input
+    };
+    others.into_iter().map(made).collect()
+}
+
+/// How a struct is made smaller: each of these fields in turn, as its type is or by a function.
+macro_rules! smaller {
+    ($kind:ty: $($field:ident $(by $rule:expr)?),*) => {
+        impl crate::shrink::Shrink for $kind {
+            fn smaller(&self) -> Vec<Self> {
+                let mut all = vec![];
+                $(
+                    let fields = smaller!(@ self.$field $(, $rule)?);
+                    all.extend(crate::shrink::with(self, fields, |whole, field| whole.$field = field));
+                )*
+                all
+            }
+        }
+    };
+    (@ $field:expr) => { crate::shrink::Shrink::smaller(&$field) };
+    (@ $field:expr, $rule:expr) => { $rule(&$field) };
 }

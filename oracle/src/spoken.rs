@@ -2,6 +2,7 @@
 
 use crate::call::ask;
 use crate::scene::ascii;
+use crate::words::Wanted;
 use original::cart::Cart;
 use original::data::Container;
 use original::language::{Language, Sayable};
@@ -23,6 +24,9 @@ pub struct Syllable {
     pub phones: Vec<Vec<u8>>,
 }
 
+smaller!(Word: syllables, text);
+smaller!(Syllable: phones);
+
 impl Word {
     pub fn phones(&self) -> impl Iterator<Item = &Vec<u8>> {
         self.syllables.iter().flat_map(|syllable| &syllable.phones)
@@ -34,13 +38,6 @@ impl Word {
     }
 }
 
-/// A word to be said, and its tag.
-#[derive(Clone)]
-pub struct Wanted {
-    pub word: Vec<u8>,
-    pub tag: Vec<u8>,
-}
-
 /// What the original makes of some words in a row.
 pub struct Said {
     pub words: Vec<Word>,
@@ -50,7 +47,7 @@ pub struct Said {
 /// Says words in one utterance; an error if the original panics, or if its chains are at odds with each other.
 pub fn say(lexicon: &Lexicon, lts: &Lts, wanted: &[Wanted]) -> Result<Said, String> {
     let language = language(lexicon, lts, wanted);
-    let utterance = asked(|| {
+    let utterance = ask(|| {
         let mut utterance = Utterance::new();
         let words = utterance.create_relation("Word");
         for Wanted { word, tag } in wanted {
@@ -63,13 +60,13 @@ pub fn say(lexicon: &Lexicon, lts: &Lts, wanted: &[Wanted]) -> Result<Said, Stri
     })?;
     Ok(Said {
         words: read(&utterance)?,
-        phone_string: asked(|| pipeline::phone_string(&utterance))?,
+        phone_string: ask(|| pipeline::phone_string(&utterance))?,
     })
 }
 
 /// The original's phone string of any phones in a row.
 pub fn phone_string(phones: &[&[u8]]) -> Result<String, String> {
-    asked(|| {
+    ask(|| {
         let mut utterance = Utterance::new();
         let segments = utterance.create_relation("Segment");
         for phone in phones {
@@ -78,10 +75,6 @@ pub fn phone_string(phones: &[&[u8]]) -> Result<String, String> {
         }
         pipeline::phone_string(&utterance)
     })
-}
-
-fn asked<T>(question: impl FnOnce() -> T) -> Result<T, String> {
-    ask(question).map_err(|said| format!("the original panics: {said}"))
 }
 
 /// The words with what hangs below them. The chains of words, syllables and segments, forwards and backwards,

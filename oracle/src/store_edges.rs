@@ -1,16 +1,14 @@
 //! Stores for the short inputs: every small one, and stores at 01's limits and just past them.
 
-use crate::lexicons::Lexicon;
-use crate::scene::{Add, Scene};
-use crate::stores::{self, Placed, LARGEST, SLOT};
-use std::rc::Rc;
+use crate::prelude::*;
+use crate::stores::{Placed, LARGEST};
 
 /// An entry to be added, its phones parted by blanks.
 pub fn add(word: &str, tag: &str, phones: &str) -> Add {
+    let phones: Vec<&str> = phones.split_whitespace().collect();
     Add {
-        word: word.into(),
-        tag: tag.into(),
-        phones: phones.split_whitespace().map(|p| p.into()).collect(),
+        wanted: Wanted::new(word, tag),
+        phones: List::of(&phones),
     }
 }
 
@@ -57,21 +55,7 @@ pub fn good() -> Vec<u8> {
 
 /// The good store with each of its bytes altered.
 pub fn altered_bytes() -> Vec<Vec<u8>> {
-    let good = good();
-    let mut all = vec![];
-    for at in 0..good.len() {
-        let byte = good[at];
-        for value in [0, 1, 2, 3, 24, 65, 128, 255, byte ^ 1, byte.wrapping_add(1)] {
-            // many values only where there are fields
-            if value == byte || at % SLOT > 70 && value > 2 {
-                continue;
-            }
-            let mut store = good.clone();
-            store[at] = value;
-            all.push(store);
-        }
-    }
-    all
+    records::altered(&good(), SLOT, 70, &[0, 1, 2, 3, 24, 65, 128, 255])
 }
 
 /// Stores at 01's limits, and just past them.
@@ -91,24 +75,18 @@ pub fn limits() -> Vec<Vec<u8>> {
     all.push(good[..2 * SLOT].to_vec());
     all.push(good[..SLOT].to_vec());
     let full = |count: usize, slots: usize| {
-        let adds: Vec<Add> = (0..count)
-            .map(|i| add(&format!("w{i}"), "", "k ae1 t"))
-            .map(|add| Add {
-                phones: vec![b"k".to_vec(); add.word.len() % 4],
-                ..add
-            })
-            .collect();
+        let made = |i: usize| {
+            let word = format!("w{i}");
+            add(&word, "", &"k ".repeat(word.len() % 4))
+        };
+        let adds: Vec<Add> = (0..count).map(made).collect();
         grown(slots, 0x5a, &adds)
     };
     all.push(full(127, 128));
     all.push(full(126, 128));
     all.push(full(2, 3));
     // longest texts
-    let longest = Add {
-        word: vec![b'w'; 47],
-        tag: vec![b't'; 47],
-        phones: vec![b"brth".to_vec(); 24],
-    };
+    let longest = add(&"w".repeat(47), &"t".repeat(47), &"brth ".repeat(24));
     all.push(grown(2, 0, &[longest]));
     all.push(grown(3, 0, &[add("", "", ""), add("lead", "nil", "")]));
     all.extend(odd());
@@ -185,20 +163,16 @@ fn unsound() -> Vec<Vec<u8>> {
     all
 }
 
-/// What a sound store has, for the table.
-pub fn features(store: &[u8], entries: &[Placed]) -> Vec<&'static str> {
-    let ordered = (1..).zip(entries).all(|(slot, placed)| slot == placed.slot);
-    let unused = &store[stores::unused(store)..];
-    let rows = [
-        ("store without entries", entries.is_empty()),
-        (
-            "store with every slot used",
-            !entries.is_empty() && unused.is_empty(),
-        ),
-        ("store of 127 entries", entries.len() == 127),
-        ("store in another order than its slots", !ordered),
-        ("anything in unused slots", unused.iter().any(|b| *b != 0)),
-    ];
-    let met = rows.iter().filter(|row| row.1);
-    met.map(|row| row.0).collect()
+rows! { pub STORE:
+    /// What a sound store has.
+    features(store: &[u8], entries: &[Placed]) {
+        let ordered = (1..).zip(entries).all(|(slot, placed)| slot == placed.slot);
+        let unused = &store[stores::unused(store)..];
+    } [
+        "store without entries" => entries.is_empty(),
+        "store with every slot used" => !entries.is_empty() && unused.is_empty(),
+        "store of 127 entries" => entries.len() == 127,
+        "store in another order than its slots" => !ordered,
+        "anything in unused slots" => !records::zeros(unused),
+    ]
 }

@@ -1,10 +1,8 @@
 //! Stores of many shapes, and ways to damage them.
 
-use crate::phones::Phones;
-use crate::random::Random;
-use crate::scene::{Add, Scene};
-use crate::stores::{self, Placed, LARGEST, SLOT};
-use crate::words;
+use crate::prelude::*;
+use crate::records::put;
+use crate::stores::{Placed, LARGEST};
 
 /// A sound store beside a lexicon that has its form, grown by adds over some words.
 pub fn random(random: &mut Random, empty: &Scene, words: &[Vec<u8>], phones: &Phones) -> Vec<u8> {
@@ -68,16 +66,10 @@ pub fn add(
     while words::is_refused(&tag) {
         tag = words::tag(random);
     }
-    let count = match random.weighted(&[1, 10, 2, 1]) {
-        0 => 0,
-        1 => random.between(1, 5),
-        2 => random.between(6, 24),
-        _ => 24,
-    };
+    let count = random.ranged(&[(1, 0, 0), (10, 1, 5), (2, 6, 24), (1, 24, 24)]);
     Add {
-        word: words::recased(random, &word),
-        tag,
-        phones: known(random, scene, phones, count),
+        wanted: Wanted::new(words::recased(random, &word), tag),
+        phones: List::of(&known(random, scene, phones, count)),
     }
 }
 
@@ -94,11 +86,10 @@ pub fn known(random: &mut Random, scene: &Scene, phones: &Phones, count: usize) 
 /// The same entries in other slots.
 pub fn renumbered(random: &mut Random, store: &[u8]) -> Vec<u8> {
     let mut chain = stores::read(store).expect("the store is sound");
-    for i in (1..chain.len()).rev() {
-        let j = random.between(0, i);
-        let slot = chain[i].slot;
-        chain[i].slot = chain[j].slot;
-        chain[j].slot = slot;
+    let mut slots: Vec<usize> = chain.iter().map(|placed| placed.slot).collect();
+    random.shuffle(&mut slots);
+    for (placed, slot) in chain.iter_mut().zip(slots) {
+        placed.slot = slot;
     }
     stores::write(store, &chain)
 }
@@ -133,10 +124,7 @@ fn odd(random: &mut Random, store: &[u8], phones: &Phones) -> Vec<u8> {
 
 /// Fills the slots past the used ones.
 pub fn spoil_unused(random: &mut Random, store: &mut [u8]) {
-    let from = stores::unused(store);
-    for byte in &mut store[from..] {
-        *byte = random.byte();
-    }
+    records::spoil(random, store, stores::unused(store));
 }
 
 /// A store that is no longer sound, or still is: the driver's reader decides.
@@ -158,10 +146,7 @@ pub fn damaged(random: &mut Random, store: &[u8]) -> Vec<u8> {
         }
         1 => store.truncate(SLOT * random.below(slots)),
         2 => link(random, &mut store, slots),
-        3 => {
-            let link = random.below(used + 2) as u16;
-            store[slot..slot + 2].copy_from_slice(&link.to_le_bytes());
-        }
+        3 => put(&mut store, slot, random.below(used + 2)),
         4 if used > 1 => {
             // the key of another slot
             let other = SLOT * random.between(1, used);
@@ -181,7 +166,10 @@ pub fn damaged(random: &mut Random, store: &[u8]) -> Vec<u8> {
             let zero = [6, 50, 52, 63, 63, 447, 448, 511][random.below(8)];
             store[slot + zero] = random.between(1, 255) as u8;
         }
-        13 if used > 0 && used + 1 < slots => in_place_of(&mut store, slot / SLOT, used + 1),
+        13 if used > 0 && used + 1 < slots => {
+            let links = (0..=used).map(|slot| SLOT * slot).chain([2]);
+            records::in_place_of(&mut store, SLOT, [slot / SLOT, used + 1], links);
+        }
         _ => {
             let at = random.below(store.len());
             store[at] ^= 1 << random.below(8);
@@ -190,28 +178,17 @@ pub fn damaged(random: &mut Random, store: &[u8]) -> Vec<u8> {
     store
 }
 
-/// An unused slot in the place of a used one, whose entry it gets.
-fn in_place_of(store: &mut [u8], slot: usize, unused: usize) {
-    store.copy_within(SLOT * slot..SLOT * (slot + 1), SLOT * unused);
-    let links = (0..unused).map(|slot| SLOT * slot).chain([2]);
-    for at in links {
-        if store[at..at + 2] == (slot as u16).to_le_bytes() {
-            store[at..at + 2].copy_from_slice(&(unused as u16).to_le_bytes());
-        }
-    }
-}
-
 /// Another number in a field of slot 0, or in a slot's link.
 fn link(random: &mut Random, store: &mut [u8], slots: usize) {
     let at = [0, 2, 4][random.below(3)];
-    let value = [random.below(slots + 2), 65_535, 256][random.weighted(&[8, 1, 1])] as u16;
-    store[at..at + 2].copy_from_slice(&value.to_le_bytes());
+    let value = [random.below(slots + 2), 65_535, 256][random.weighted(&[8, 1, 1])];
+    put(store, at, value);
 }
 
 /// Sound stores with something left out, for shrinking; of an unsound one, with bytes made zero.
 pub fn smaller(store: &[u8]) -> Vec<Vec<u8>> {
     let Ok(chain) = stores::read(store) else {
-        return plainer_bytes(store);
+        return records::plainer(store, SLOT, 4);
     };
     let mut all = vec![];
     let rewritten = |chain: &[Placed]| {
@@ -224,9 +201,7 @@ pub fn smaller(store: &[u8]) -> Vec<Vec<u8>> {
         }
         stores::write(store, &chain)
     };
-    for kept in crate::shrink::shorter(&chain) {
-        all.push(rewritten(&kept));
-    }
+    all.extend(chain.smaller().iter().map(|chain| rewritten(chain)));
     let from = stores::unused(store);
     for slots in [0, 1, 2] {
         let len = from + SLOT * slots;
@@ -234,52 +209,14 @@ pub fn smaller(store: &[u8]) -> Vec<Vec<u8>> {
             all.push(store[..len].to_vec());
         }
     }
-    if store[from..].iter().any(|b| *b != 0) {
-        all.push([&store[..from], &vec![0; store.len() - from]].concat());
+    let zeroed = records::zeroed(&store[from..]).into_iter();
+    all.extend(zeroed.map(|behind| [&store[..from], &behind].concat()));
+    let mut ordered = chain.clone();
+    for (slot, placed) in (1..).zip(&mut ordered) {
+        placed.slot = slot;
     }
-    let ordered: Vec<Placed> = (1..)
-        .zip(&chain)
-        .map(|(slot, placed)| Placed {
-            slot,
-            entry: placed.entry.clone(),
-        })
-        .collect();
     if ordered != chain {
         all.push(rewritten(&ordered));
-    }
-    for i in 0..chain.len().min(16) {
-        let phones = crate::shrink::shorter(&chain[i].entry.phones);
-        let words = crate::shrink::shorter(&chain[i].entry.word);
-        let mut change = |change: &dyn Fn(&mut Placed)| {
-            let mut chain = chain.clone();
-            change(&mut chain[i]);
-            all.push(rewritten(&chain));
-        };
-        for phones in phones {
-            change(&|placed| placed.entry.phones = phones.clone());
-        }
-        for word in words {
-            change(&|placed| placed.entry.word = word.clone());
-        }
-    }
-    all
-}
-
-fn plainer_bytes(store: &[u8]) -> Vec<Vec<u8>> {
-    let mut all = crate::shrink::shorter(store);
-    all.truncate(64);
-    for slots in 0..store.len() / SLOT {
-        all.push(store[..SLOT * slots].to_vec());
-    }
-    let parts = crate::shrink::parts(store.len());
-    let parts = parts.into_iter();
-    let single = (0..store.len().min(4 * SLOT)).map(|at| at..at + 1);
-    for part in parts.chain(single) {
-        if store[part.clone()].iter().any(|b| *b != 0) {
-            let mut store = store.to_vec();
-            store[part].fill(0);
-            all.push(store);
-        }
     }
     all
 }

@@ -1,6 +1,7 @@
 //! The store: 01's layout, read and written by the driver itself.
 
-use crate::cells::{cell, text, CELL};
+use crate::cells::{cell, is_over, text, CELL};
+use crate::records::{ensure, number, put, zeros};
 use crate::words;
 
 /// Bytes of a slot.
@@ -42,6 +43,9 @@ pub struct Placed {
     pub entry: Entry,
 }
 
+smaller!(Entry: phones, word);
+smaller!(Placed: entry);
+
 /// Why a store is refused by 2: the rows of the table that count it.
 pub const UNSOUND: &[&str] = &[
     "store: wrong length",
@@ -73,80 +77,62 @@ pub fn has_length(len: usize) -> bool {
 
 /// The entries of a sound store, the oldest first; of any other store, what is amiss.
 pub fn read(store: &[u8]) -> Result<Vec<Placed>, &'static str> {
-    if !has_length(store.len()) {
-        return Err("store: wrong length");
-    }
+    ensure(has_length(store.len()), "store: wrong length")?;
     let slots: Vec<&[u8]> = store.chunks(SLOT).collect();
     let [first, last, used] = [0, 2, 4].map(|at| number(&slots[0][at..]));
-    if !zeros(&slots[0][HEAD_END..]) {
-        return Err("store: bytes beside slot 0's fields");
-    }
-    if used >= slots.len() {
-        return Err("store: more used than there are slots");
-    }
+    ensure(
+        zeros(&slots[0][HEAD_END..]),
+        "store: bytes beside slot 0's fields",
+    )?;
+    ensure(used < slots.len(), "store: more used than there are slots")?;
     let mut seen = vec![false; slots.len()];
     let mut chain = vec![];
     let mut at = first;
     while at != 0 {
-        if at > used {
-            return Err("store: chain leaves the used slots");
-        }
-        if seen[at] {
-            return Err("store: chain comes back to a slot");
-        }
+        ensure(at <= used, "store: chain leaves the used slots")?;
+        ensure(!seen[at], "store: chain comes back to a slot")?;
         seen[at] = true;
         let entry = read_slot(slots[at])?;
         chain.push(Placed { slot: at, entry });
         at = number(slots[at]);
     }
-    if chain.len() < used {
-        return Err("store: chain misses a used slot");
-    }
-    if chain.last().map_or(0, |placed| placed.slot) != last {
-        return Err("store: 'last' is not the chain's last");
-    }
+    ensure(chain.len() >= used, "store: chain misses a used slot")?;
+    ensure(
+        chain.last().map_or(0, |placed| placed.slot) == last,
+        "store: 'last' is not the chain's last",
+    )?;
     let mut keys: Vec<_> = chain.iter().map(|placed| placed.entry.key()).collect();
     keys.sort();
-    match keys.windows(2).all(|pair| pair[0] != pair[1]) {
-        true => Ok(chain),
-        false => Err("store: two entries of one word and tag"),
-    }
+    let differ = keys.windows(2).all(|pair| pair[0] != pair[1]);
+    ensure(differ, "store: two entries of one word and tag")?;
+    Ok(chain)
 }
 
 fn read_slot(slot: &[u8]) -> Result<Entry, &'static str> {
     let tag = slot[TAG];
     let len = usize::from(slot[WORD_LEN]);
     let count = usize::from(slot[COUNT]);
-    if tag > 127 {
-        return Err("store: tag of 128 or more");
-    }
-    if len > words::LONGEST {
-        return Err("store: word over 47 bytes");
-    }
+    ensure(tag <= 127, "store: tag of 128 or more")?;
+    ensure(len <= words::LONGEST, "store: word over 47 bytes")?;
     let (word, past) = slot[WORD..WORD_END].split_at(len);
-    if !word.is_ascii() {
-        return Err("store: word with a high byte");
-    }
-    if word.iter().any(u8::is_ascii_uppercase) {
-        return Err("store: word with a capital");
-    }
-    if !zeros(past) {
-        return Err("store: bytes past a word");
-    }
-    if count > MOST_PHONES {
-        return Err("store: over 24 phones");
-    }
-    if !zeros(&slot[COUNT + 1..PHONES]) {
-        return Err("store: bytes 52 to 63 of a slot");
-    }
+    ensure(word.is_ascii(), "store: word with a high byte")?;
+    ensure(
+        !word.iter().any(u8::is_ascii_uppercase),
+        "store: word with a capital",
+    )?;
+    ensure(zeros(past), "store: bytes past a word")?;
+    ensure(count <= MOST_PHONES, "store: over 24 phones")?;
+    ensure(
+        zeros(&slot[COUNT + 1..PHONES]),
+        "store: bytes 52 to 63 of a slot",
+    )?;
     let (cells, past) = slot[PHONES..PHONES_END].split_at(CELL * count);
     let phones: Result<_, _> = cells.chunks(CELL).map(read_phone).collect();
-    if !zeros(past) {
-        return Err("store: bytes past the phones' count");
-    }
-    if !zeros(&slot[PHONES_END..]) {
-        return Err("store: bytes 448 to 511 of a slot");
-    }
+    ensure(zeros(past), "store: bytes past the phones' count")?;
+    ensure(
+        zeros(&slot[PHONES_END..]),
+        "store: bytes 448 to 511 of a slot",
+    )?;
     Ok(Entry {
         tag,
         word: word.to_vec(),
@@ -157,15 +143,9 @@ fn read_slot(slot: &[u8]) -> Result<Entry, &'static str> {
 fn read_phone(bytes: &[u8]) -> Result<Vec<u8>, &'static str> {
     let bytes: &[u8; CELL] = bytes.try_into().expect("a chunk is a cell");
     let phone = text(bytes);
-    if usize::from(bytes[0]) >= CELL {
-        return Err("store: phone over 15 bytes");
-    }
-    if !phone.is_ascii() {
-        return Err("store: phone with a high byte");
-    }
-    if cell(phone) != *bytes {
-        return Err("store: bytes past a phone");
-    }
+    ensure(!is_over(bytes), "store: phone over 15 bytes")?;
+    ensure(phone.is_ascii(), "store: phone with a high byte")?;
+    ensure(cell(phone) == *bytes, "store: bytes past a phone")?;
     Ok(phone.to_vec())
 }
 
@@ -222,16 +202,4 @@ pub fn stray(before: &[u8], after: &[u8], key_slot: usize) -> Option<usize> {
     (0..before.len())
         .filter(altered)
         .find(|at| !touched(*at) || *at >= unused(after))
-}
-
-fn zeros(bytes: &[u8]) -> bool {
-    bytes.iter().all(|b| *b == 0)
-}
-
-fn number(bytes: &[u8]) -> usize {
-    usize::from(u16::from_le_bytes([bytes[0], bytes[1]]))
-}
-
-fn put(bytes: &mut [u8], at: usize, value: usize) {
-    bytes[at..at + 2].copy_from_slice(&(value as u16).to_le_bytes());
 }

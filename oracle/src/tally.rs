@@ -1,11 +1,16 @@
 //! How many calls were compared, by answer and by what they met.
 
+use crate::call::{row, Call};
+
 /// The width of the rows' names.
 const WIDTH: usize = 54;
 
 /// The counts of one call's rows.
 pub struct Tally {
-    name: &'static str,
+    pub name: &'static str,
+    /// The call's shares of the random calls and of the recorded cases.
+    pub share: usize,
+    pub share_recorded: usize,
     answers: Rows,
     met: Rows,
     /// How often the original was asked.
@@ -13,12 +18,13 @@ pub struct Tally {
 }
 
 struct Rows {
-    names: Vec<&'static str>,
+    names: Vec<String>,
     counts: Vec<usize>,
 }
 
 impl Rows {
-    fn new(names: Vec<&'static str>) -> Rows {
+    fn new(names: impl Iterator<Item = String>) -> Rows {
+        let names: Vec<String> = names.collect();
         Rows {
             counts: vec![0; names.len()],
             names,
@@ -37,19 +43,23 @@ impl Rows {
         }
     }
 
-    fn empty(&self) -> impl Iterator<Item = &'static str> + '_ {
+    fn empty(&self) -> impl Iterator<Item = &String> {
         let rows = self.names.iter().zip(&self.counts);
-        rows.filter(|(_, count)| **count == 0)
-            .map(|(name, _)| *name)
+        rows.filter(|(_, count)| **count == 0).map(|(name, _)| name)
     }
 }
 
 impl Tally {
-    pub fn new(name: &'static str, answers: &[&'static str], met: &[&[&'static str]]) -> Tally {
+    /// The counts of a call, none of them begun.
+    pub fn of<C: Call>() -> Tally {
+        let answers = C::ANSWERS.iter().map(|answer| answer.to_string());
+        let refusals = C::REFUSALS.iter().map(|refusal| row(*refusal, ""));
         Tally {
-            name,
-            answers: Rows::new(answers.to_vec()),
-            met: Rows::new(met.concat()),
+            name: C::NAME,
+            share: C::SHARE,
+            share_recorded: C::SHARE_RECORDED,
+            answers: Rows::new(answers.chain(refusals)),
+            met: Rows::new(C::MET.concat().concat().into_iter().map(String::from)),
             asked: 0,
         }
     }

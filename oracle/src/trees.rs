@@ -1,6 +1,10 @@
 //! The sections of the letter trees: their form by 01, the walk that tells damage, and the original's reading.
 
 use crate::forever::{hold, Held};
+use crate::lent::Part;
+use crate::notation::Form;
+use crate::records::number;
+use crate::tables::phone_names;
 use original::lexicon::Lts;
 
 /// Bytes of a node.
@@ -18,6 +22,18 @@ pub struct Sections {
     pub model: Vec<u8>,
 }
 
+impl Sections {
+    pub fn parts(&self) -> [Part<'_>; 3] {
+        [
+            Part::read("lts.phones", Form::PhoneTable, &self.phones),
+            Part::read("lts.index", Form::Bytes, &self.index),
+            Part::read("lts.model", Form::Bytes, &self.model),
+        ]
+    }
+}
+
+smaller!(Sections: phones, model);
+
 /// Sections, what 01 says of them, and what words to try on them.
 pub struct Trees {
     pub sections: Sections,
@@ -32,14 +48,8 @@ pub struct Trees {
 impl Trees {
     pub fn new(sections: Sections, alphabet: Vec<u8>) -> Trees {
         let names = form(&sections);
-        let original = names.as_ref().map(|_| {
-            let parts = [
-                ("lts.phones", &sections.phones[..]),
-                ("lts.index", &sections.index[..]),
-                ("lts.model", &sections.model[..]),
-            ];
-            hold(&parts, Lts::parse)
-        });
+        let original = names.as_ref();
+        let original = original.map(|_| hold(&sections.parts(), Lts::parse));
         let count = names.as_ref().map_or(0, Vec::len);
         Trees {
             has_damage: has_damage(&sections.model, count),
@@ -64,7 +74,7 @@ impl Trees {
     /// The node where a letter starts.
     pub fn start(&self, letter: u8) -> usize {
         let at = 2 * usize::from(letter - b'a');
-        usize::from(number(&self.sections.index[at..]))
+        number(&self.sections.index[at..])
     }
 
     /// Goes from a node to a leaf, by 01's rule.
@@ -94,7 +104,7 @@ impl Trees {
                     &node[4..]
                 }
             };
-            at = usize::from(number(next));
+            at = number(next);
         }
         walk
     }
@@ -120,43 +130,9 @@ fn form(sections: &Sections) -> Option<Vec<Vec<u8>>> {
     phone_names(&sections.phones)
 }
 
-/// The strings of a phone table that has 01's form.
-pub fn phone_names(table: &[u8]) -> Option<Vec<Vec<u8>>> {
-    let count = u32::from_le_bytes(table.get(..4)?.try_into().ok()?);
-    if count > 256 {
-        return None;
-    }
-    let mut names = vec![];
-    let mut rest = &table[4..];
-    for _ in 0..count {
-        let len = usize::from(*rest.first()?);
-        let name = rest.get(1..1 + len)?;
-        if len > 15 || !name.is_ascii() {
-            return None;
-        }
-        names.push(name.to_vec());
-        rest = &rest[1 + len..];
-    }
-    Some(names)
-}
-
-/// A phone table of these names.
-pub fn phone_table(names: &[Vec<u8>]) -> Vec<u8> {
-    let mut table = (names.len() as u32).to_le_bytes().to_vec();
-    for name in names {
-        table.push(name.len() as u8);
-        table.extend_from_slice(name);
-    }
-    table
-}
-
-fn number(bytes: &[u8]) -> u16 {
-    u16::from_le_bytes([bytes[0], bytes[1]])
-}
-
 fn has_damage(model: &[u8], phones: usize) -> bool {
     let nodes = model.len() / NODE;
-    let outside = |link: &[u8]| usize::from(number(link)) >= nodes;
+    let outside = |link: &[u8]| number(link) >= nodes;
     let damaged = |node: &[u8]| match node[0] {
         255 => usize::from(node[1]) >= phones,
         0..=7 => outside(&node[2..]) || outside(&node[4..]),

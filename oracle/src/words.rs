@@ -1,5 +1,7 @@
-//! Words: over an alphabet, of every length.
+//! Words: over an alphabet, of every length; and their tags.
 
+use crate::lent::Part;
+use crate::notation::Form;
 use crate::random::Random;
 
 /// The longest word that 01 accepts.
@@ -15,6 +17,45 @@ const ALPHABETS: [&[u8]; 7] = [
     b"abcdeinstABCDEINST0123456789'-#",
     b"zaeiouynmNM#'- 09AZ@[`{",
 ];
+
+/// A word and its tag, as a call is given them.
+#[derive(Clone, PartialEq, Eq)]
+pub struct Wanted {
+    pub word: Vec<u8>,
+    pub tag: Vec<u8>,
+}
+
+impl Wanted {
+    pub fn new(word: impl Into<Vec<u8>>, tag: impl Into<Vec<u8>>) -> Wanted {
+        Wanted {
+            word: word.into(),
+            tag: tag.into(),
+        }
+    }
+
+    /// Whether it is refused by 3.
+    pub fn is_refused(&self) -> bool {
+        is_refused(&self.word) || is_refused(&self.tag)
+    }
+
+    pub fn parts(&self) -> [Part<'_>; 2] {
+        [
+            word_part(&self.word),
+            Part::read("the tag", Form::Text, &self.tag),
+        ]
+    }
+
+    /// What it has, for the table.
+    pub fn met(&self) -> Vec<&'static str> {
+        [of_word(&self.word), of_tag(&self.tag)].concat()
+    }
+}
+
+smaller!(Wanted: word, tag);
+
+pub fn word_part(word: &[u8]) -> Part<'_> {
+    Part::read("the word", Form::Text, word)
+}
 
 /// Letters that a set of tables and its words share, so that questions match; now and then all of ASCII.
 pub fn alphabet(random: &mut Random) -> Vec<u8> {
@@ -44,6 +85,13 @@ pub fn accepted(random: &mut Random, alphabet: &[u8]) -> Vec<u8> {
         false => random.pick_byte(alphabet),
     };
     (0..len).map(&mut letter).collect()
+}
+
+/// A word for the list: the edge of this number, if there is one, or any.
+pub fn to_record(random: &mut Random, alphabet: &[u8], edge: Option<usize>) -> Vec<u8> {
+    let mut edges = edges().into_iter().filter(|word| !is_refused(word));
+    let edge = edge.and_then(|i| edges.nth(i));
+    edge.unwrap_or_else(|| accepted(random, alphabet))
 }
 
 /// A word; one in forty is refused.
@@ -78,12 +126,10 @@ pub fn tag(random: &mut Random) -> Vec<u8> {
 
 /// Tags that the rules tell apart, and tags at 01's limits.
 pub fn tags() -> Vec<Vec<u8>> {
-    let mut tags: Vec<Vec<u8>> = [
+    let plain = [
         "", "nil", "n", "v", "0", "N", "NIL", "nill", "nn", "0n", "\0",
-    ]
-    .iter()
-    .map(|tag| tag.as_bytes().to_vec())
-    .collect();
+    ];
+    let mut tags: Vec<Vec<u8>> = plain.map(Vec::from).to_vec();
     tags.extend([46, 47, 48, 256].map(|len| vec![b'n'; len]));
     tags.extend([127, 128, 255].map(|b| vec![b]));
     tags.push(vec![b'n', 128]);
@@ -119,14 +165,16 @@ pub fn near(random: &mut Random, words: &[Vec<u8>]) -> Vec<u8> {
     word
 }
 
-/// Every word up to a length over an alphabet.
-pub fn every(alphabet: &[u8], longest: usize) -> Vec<Vec<u8>> {
+/// Every word up to a length over an alphabet, or every list of phones over some.
+pub fn every<T: Clone>(alphabet: &[T], longest: usize) -> Vec<Vec<T>> {
     let mut words = vec![vec![]];
     let mut last = words.clone();
     for _ in 0..longest {
-        let longer = |word: &Vec<u8>| {
+        let longer = |word: &Vec<T>| {
             let word = word.clone();
-            alphabet.iter().map(move |b| [&word[..], &[*b]].concat())
+            alphabet
+                .iter()
+                .map(move |b| [&word[..], &[b.clone()]].concat())
         };
         last = last.iter().flat_map(longer).collect();
         words.extend(last.iter().cloned());
@@ -136,36 +184,9 @@ pub fn every(alphabet: &[u8], longest: usize) -> Vec<Vec<u8>> {
 
 /// Words at 01's limits.
 pub fn edges() -> Vec<Vec<u8>> {
-    let mut words: Vec<Vec<u8>> = [
-        "",
-        "a",
-        "A",
-        "z",
-        "Z",
-        "a#",
-        "#a",
-        "a#b",
-        "#",
-        "##",
-        "ab",
-        "ba",
-        "tempo#two",
-        "two",
-        "a%a",
-        "a#7",
-        "don't",
-        "_a",
-        "in",
-        ",",
-        "Email",
-        "@",
-        "[",
-        "`",
-        "{",
-    ]
-    .iter()
-    .map(|word| word.as_bytes().to_vec())
-    .collect();
+    let plain = "a A z Z a# #a a#b # ## ab ba tempo#two two a%a a#7 don't _a in , Email @ [ ` {";
+    let mut words: Vec<Vec<u8>> = plain.split(' ').map(Vec::from).collect();
+    words.insert(0, vec![]);
     for len in [46, 47, 48, 49, 255, 256] {
         words.push(vec![b'a'; len]);
         words.push(LETTERS.iter().cycle().take(len).copied().collect());
@@ -174,4 +195,25 @@ pub fn edges() -> Vec<Vec<u8>> {
     words.push(vec![0]);
     words.push([&[b'a'; 47][..], &[200]].concat());
     words
+}
+
+rows! { pub WORD:
+    /// What a word has.
+    of_word(word: &[u8]) [
+        "empty word" => word.is_empty(),
+        "word of 47 bytes" => word.len() == LONGEST,
+        "capital letter" => word.to_ascii_lowercase() != word,
+    ]
+}
+
+rows! { pub TAG:
+    /// What a tag has.
+    of_tag(tag: &[u8]) [
+        "tag empty" => tag.is_empty(),
+        "tag 'nil'" => tag == b"nil",
+        "tag '0'" => tag == b"0",
+        "tag of one byte" => tag.len() == 1,
+        "tag of more bytes" => tag.len() > 1 && tag != b"nil",
+        "tag of 47 bytes" => tag.len() == LONGEST,
+    ]
 }

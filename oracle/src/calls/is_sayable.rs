@@ -1,15 +1,7 @@
 //! is_sayable: whether two machines accept the letters of a word.
 
-use crate::call::{ask, Call, Expected, Outcome};
-use crate::lent::{altered, Lent};
 use crate::machines::{self, cell, section, step, walk, Machines, Step, Walk};
-use crate::notation;
-use crate::ours::{self, Answer};
-use crate::random::Random;
-use crate::record::case;
-use crate::shrink::shorter;
-use crate::words;
-use std::rc::Rc;
+use crate::prelude::*;
 
 /// How many words a pair of machines serves.
 const WORDS: usize = 40;
@@ -22,11 +14,11 @@ pub struct Input {
     word: Vec<u8>,
 }
 
+smaller!(Input: word, machines);
+
 #[derive(Default)]
 pub struct IsSayable {
-    machines: Option<Rc<Machines>>,
-    /// Words that the machines still serve.
-    left: usize,
+    machines: Served<Rc<Machines>>,
 }
 
 impl Call for IsSayable {
@@ -34,23 +26,10 @@ impl Call for IsSayable {
     const NAME: &'static str = "is_sayable";
     const SHARE: usize = 20;
     const SHARE_RECORDED: usize = 17;
-    const ANSWERS: &'static [&'static str] = &["yes", "no", "refusal 1", "refusal 3"];
-    const MET: &'static [&'static str] = &[
-        "no step on '#'",
-        "empty word",
-        "word of 47 bytes",
-        "capital letter",
-        "section without cells",
-        "section with an odd last byte",
-        "start past the end of aswd.p",
-        "start past the end of aswd.s",
-        "aswd.p: no step, a zero ends the list",
-        "aswd.p: no step, the section ends the list",
-        "aswd.p: no vowel in the word",
-        "aswd.s: no step, a zero ends the list",
-        "aswd.s: no step, the section ends the list",
-        "yes, with bytes that are never read",
-    ];
+    const ANSWERS: Rows = &["yes", "no"];
+    const REFUSALS: &'static [u32] = &[1, 3];
+    const MET: Table = &[words::WORD, ROWS];
+    const LIBRARY: Function = ours::is_sayable;
 
     fn short(&self) -> Vec<Input> {
         let random = &mut Random::new(7, "short is_sayable");
@@ -67,102 +46,44 @@ impl Call for IsSayable {
     }
 
     fn random(&mut self, random: &mut Random) -> Input {
-        if self.left == 0 {
-            self.machines = Some(Rc::new(machines::random(random)));
-            self.left = WORDS;
-        }
-        self.left -= 1;
-        let machines = self.machines.clone().expect("there are machines by now");
+        let made = || (Rc::new(machines::random(random)), WORDS);
+        let machines = self.machines.next(made).clone();
         let word = words::random(random, &machines.alphabet);
         Input { machines, word }
     }
 
-    fn expected(&self, input: &Input) -> Expected {
-        if !input.machines.has_form() {
-            return Expected::refused(1, vec![], vec![]);
-        }
-        if words::is_refused(&input.word) {
-            return Expected::refused(3, vec![], vec![]);
-        }
-        let word = std::str::from_utf8(&input.word).expect("accepted words are ASCII");
-        let sayable = match ask(|| input.machines.original().is_sayable(word)) {
-            Ok(sayable) => sayable,
-            Err(said) => return Expected::panicked(said, vec![]),
-        };
+    fn rule(&self, input: &Input, met: &mut Met) -> Ruling {
+        met.refuse(1, !input.machines.has_form(), || None)?;
+        met.refuse(3, words::is_refused(&input.word), || None)?;
+        let sayable = ask(|| input.machines.original().is_sayable(ascii(&input.word)))?;
+        walks(input, met);
         let row = if sayable { "yes" } else { "no" };
         let answer = Answer::accepted(u32::from(sayable), 0);
-        Expected::accepted(answer, &[], vec![], row, features(input))
+        Ok(Told::new(answer, row, vec![]))
     }
 
-    fn ours(&self, input: &Input, _handed: &[u8]) -> Outcome {
-        let sections = &input.machines.sections;
-        let prefix = Lent::new(&sections[0]);
-        let suffix = Lent::new(&sections[1]);
-        let word = Lent::new(&input.word);
-        let answer = ours::is_sayable(prefix.bytes(), suffix.bytes(), word.bytes());
-        let altered = altered(&[
-            ("aswd.p", &prefix, &sections[0]),
-            ("aswd.s", &suffix, &sections[1]),
-            ("the word", &word, &input.word),
-        ]);
-        Outcome {
-            answer,
-            output: vec![],
-            altered,
-        }
-    }
-
-    fn smaller(&self, input: &Input) -> Vec<Input> {
-        let mut all = vec![];
-        for word in shorter(&input.word) {
-            let machines = input.machines.clone();
-            all.push(Input { machines, word });
-        }
-        for side in [0, 1] {
-            for shorter in shorter(&input.machines.sections[side]) {
-                let mut sections = input.machines.sections.clone();
-                sections[side] = shorter;
-                all.push(Input {
-                    machines: Rc::new(Machines::new(sections, vec![])),
-                    word: input.word.clone(),
-                });
-            }
-        }
-        all
-    }
-
-    fn show(&self, input: &Input, _handed: &[u8]) -> String {
-        let [prefix, suffix] = &input.machines.sections;
-        let tables = [notation::bytes(prefix), notation::bytes(suffix)];
-        line(&tables.join(" "), &input.word)
+    fn lent<'a>(&self, input: &'a Input) -> Vec<Part<'a>> {
+        let word = words::word_part(&input.word);
+        input.machines.parts().into_iter().chain([word]).collect()
     }
 
     fn record(&self, random: &mut Random, cases: usize) -> Vec<String> {
         let sets = 8;
-        let mut fixed = words::edges();
-        fixed.retain(|word| !words::is_refused(word));
         let mut lines = vec![];
         for set in 0..sets {
             let machines = Rc::new(machines::to_record(random));
-            let [prefix, suffix] = &machines.sections;
             lines.push(format!("# sayable machines {} of {sets}", set + 1));
-            lines.push(format!("$3 {}", notation::bytes(prefix)));
-            lines.push(format!("$4 {}", notation::bytes(suffix)));
+            lines.extend(registers(3, &machines.parts()));
             for i in 0..cases.div_ceil(sets) {
                 // the edges on a few sets only
-                let edge = fixed.get(i).filter(|_| set % 4 == 0).cloned();
-                let word = edge.unwrap_or_else(|| words::accepted(random, &machines.alphabet));
-                let shown = line("$3 $4", &word);
+                let edge = set % 4 == 0;
+                let word = words::to_record(random, &machines.alphabet, edge.then_some(i));
                 let machines = machines.clone();
-                lines.push(case(&shown, &self.expected(&Input { machines, word })));
+                lines.push(whole_case(self, &Input { machines, word }, &named([3, 4])));
             }
         }
         lines
     }
-}
-
-fn line(tables: &str, word: &[u8]) -> String {
-    format!("is_sayable {tables} {}", notation::text(word))
 }
 
 /// Machines at the limits of what 01 says of the cells.
@@ -200,27 +121,10 @@ fn edges() -> Vec<Machines> {
         ),
         // symbols 0 and 127, and letters that folding or the symbols leave without a use
         (
+            section(&head, &b"#\0\x7fAaV".map(|symbol| cell(symbol, 1))),
             section(
                 &head,
-                &[
-                    cell(b'#', 1),
-                    cell(0, 1),
-                    cell(127, 1),
-                    cell(b'A', 1),
-                    cell(b'a', 1),
-                    cell(b'V', 1),
-                ],
-            ),
-            section(
-                &head,
-                &[
-                    0,
-                    cell(0, 1),
-                    cell(127, 1),
-                    cell(b'A', 1),
-                    cell(b'n', 1),
-                    cell(b'V', 1),
-                ],
+                &[&[0], &b"\0\x7fAnV".map(|symbol| cell(symbol, 1))[..]].concat(),
             ),
         ),
     ];
@@ -228,60 +132,52 @@ fn edges() -> Vec<Machines> {
 }
 
 /// What the machines met, as the original goes through them.
-fn features(input: &Input) -> Vec<&'static str> {
+fn walks(input: &Input, met: &mut Met) {
     let word = input.word.to_ascii_lowercase();
     let [prefix, suffix] = [0, 1].map(|side| input.machines.cells(side));
-    let odd = |section: &Vec<u8>| section.len() % 2 == 1;
-    let mut met = vec![];
-    let mut add = |row, is_met: bool| {
-        if is_met && !met.contains(&row) {
-            met.push(row);
-        }
+    met.all(words::of_word(&input.word));
+    met.all(of_sections(&input.machines));
+    let start = step(&prefix, 0, b'#');
+    met.all(of_start(&start, &prefix, &suffix));
+    let Step::To(start) = start else {
+        return;
     };
-    add("empty word", word.is_empty());
-    add("word of 47 bytes", word.len() == words::LONGEST);
-    add("capital letter", word != input.word);
-    add(
-        "section without cells",
-        prefix.is_empty() || suffix.is_empty(),
-    );
-    add(
-        "section with an odd last byte",
-        input.machines.sections.iter().any(odd),
-    );
-    let Step::To(start) = step(&prefix, 0, b'#') else {
-        add("no step on '#'", true);
-        return met;
-    };
-    add("start past the end of aswd.p", start >= prefix.len());
-    add("start past the end of aswd.s", start >= suffix.len());
-    let forwards = walk(&prefix, start, word.iter());
-    add(
-        "aswd.p: no step, a zero ends the list",
-        forwards == Walk::AtZero,
-    );
-    add(
-        "aswd.p: no step, the section ends the list",
-        forwards == Walk::AtEnd,
-    );
-    add("aswd.p: no vowel in the word", forwards == Walk::NoVowel);
-    let Walk::Vowel(from) = forwards else {
-        return met;
-    };
-    let backwards = walk(&suffix, start, word.iter().rev());
-    add(
-        "aswd.s: no step, a zero ends the list",
-        backwards == Walk::AtZero,
-    );
-    add(
-        "aswd.s: no step, the section ends the list",
-        backwards == Walk::AtEnd,
-    );
-    if let Walk::Vowel(to) = backwards {
-        add(
-            "yes, with bytes that are never read",
-            from + to + 2 < word.len(),
-        );
+    let walked = walk(&prefix, start, word.iter());
+    met.all(forwards(&walked));
+    if let Walk::Vowel(from) = walked {
+        let back = walk(&suffix, start, word.iter().rev());
+        met.all(backwards(&back, word.len(), from));
     }
-    met
+}
+
+rows! { ROWS:
+    /// What the sections have.
+    of_sections(machines: &Machines) [
+        "section without cells" => [0, 1].iter().any(|side| machines.cells(*side).is_empty()),
+        "section with an odd last byte" => machines.sections.iter().any(|s| s.len() % 2 == 1),
+    ]
+
+    /// What the step on '#' leads to.
+    of_start(start: &Step, prefix: &[u16], suffix: &[u16]) {
+        let past = |cells: &[u16]| matches!(start, Step::To(start) if *start >= cells.len());
+    } [
+        "no step on '#'" => !matches!(start, Step::To(_)),
+        "start past the end of aswd.p" => past(prefix),
+        "start past the end of aswd.s" => past(suffix),
+    ]
+
+    /// How the letters lead on from the front.
+    forwards(walk: &Walk) [
+        "aswd.p: no step, a zero ends the list" => *walk == Walk::AtZero,
+        "aswd.p: no step, the section ends the list" => *walk == Walk::AtEnd,
+        "aswd.p: no vowel in the word" => *walk == Walk::NoVowel,
+    ]
+
+    /// How they lead on from the end, if a vowel was met from the front.
+    backwards(walk: &Walk, len: usize, from: usize) [
+        "aswd.s: no step, a zero ends the list" => *walk == Walk::AtZero,
+        "aswd.s: no step, the section ends the list" => *walk == Walk::AtEnd,
+        "yes, with bytes that are never read" =>
+            matches!(walk, Walk::Vowel(to) if from + to + 2 < len),
+    ]
 }

@@ -9,30 +9,18 @@ mod run;
 mod short;
 mod smaller;
 
-use crate::call::{Call, Expected, Outcome};
-use crate::calls::{add_entries, add_entry, say_word};
-use crate::cells::CELL;
-use crate::lexicons::Lexicon;
-use crate::notation;
-use crate::ours::Answer;
-use crate::random::Random;
-use crate::sheets::{ITEM, LARGEST};
-use crate::spoken::Wanted;
-use crate::stores::{self, SLOT};
-use crate::trees::Trees;
+use crate::calls::{add_entries, add_entry, new_sheet, say_word};
+use crate::prelude::*;
+use crate::sheets::LARGEST;
+use book::Book;
 use made::Maker;
-use std::rc::Rc;
+use run::{Beside, Library};
 
 /// A call of a list.
 #[derive(Clone)]
 pub enum Act {
     NewSheet,
-    AddEntry {
-        word: Vec<u8>,
-        tag: Vec<u8>,
-        cells: Vec<[u8; CELL]>,
-        rest: Vec<u8>,
-    },
+    AddEntry(Add),
     /// A text, and the byte that fills the spare; its length, if that is not the store's.
     AddText {
         text: Vec<u8>,
@@ -50,7 +38,7 @@ pub struct Step {
 }
 
 /// The sections of a list.
-struct Sections {
+pub struct Sections {
     lexicon: Rc<Lexicon>,
     /// lex.phones alone, which is all that adding takes.
     table: Rc<Lexicon>,
@@ -95,88 +83,63 @@ impl Input {
             false => &self.sections,
         }
     }
-
-    fn spare(&self, fill: u8, len: Option<usize>) -> Vec<u8> {
-        vec![fill; len.unwrap_or(self.store.len())]
-    }
 }
 
+/// The calls of lists, by their answers.
+const CALLS: Rows = &[
+    "calls in all",
+    "new_sheet: new",
+    "add_entry: new key",
+    "add_entry: known key",
+    "add_entry: refusal 1",
+    "add_entry: refusal 3",
+    "add_entry: refusal 5",
+    "add_entry: refusal 7",
+    "add_entry: refusal 8",
+    "add_entries: lines taken 0",
+    "add_entries: lines taken 1",
+    "add_entries: lines taken 2 and more",
+    "add_entries: refusal 1",
+    "add_entries: refusal 2",
+    "add_entries: refusal 3",
+    "add_entries: refusal 4",
+    "add_entries: refusal 5",
+    "add_entries: refusal 7",
+    "add_entries: refusal 8",
+    "say_word: runtime",
+    "say_word: addenda",
+    "say_word: compiled",
+    "say_word: letters",
+    "say_word: refusal 1",
+    "say_word: refusal 3",
+    "say_word: refusal 6",
+    "say_word: refusal 7",
+    "say_word: refusal 9",
+    "phone_string: at an utterance's end",
+    "refused call, then an accepted one",
+];
+
+#[derive(Default)]
 pub struct Lists {
     maker: Maker,
+    new_sheet: new_sheet::NewSheet,
     add_entry: add_entry::AddEntry,
     add_text: add_entries::AddEntries,
     say_word: say_word::SayWord,
-}
-
-impl Lists {
-    pub fn new() -> Lists {
-        Lists {
-            maker: Maker::new(),
-            add_entry: add_entry::AddEntry::new(),
-            add_text: add_entries::AddEntries::new(),
-            say_word: say_word::SayWord::new(),
-        }
-    }
 }
 
 impl Call for Lists {
     type Input = Input;
     const NAME: &'static str = "lists of calls";
     const SHARE: usize = 12;
-    const SHARE_RECORDED: usize = 0;
-    const ANSWERS: &'static [&'static str] = &[
+    const ANSWERS: Rows = &[
         "lists of no call",
         "lists of 1 to 5 calls",
         "lists of 6 to 20 calls",
         "lists of more calls",
     ];
-    const MET: &'static [&'static str] = &[
-        "calls in all",
-        "new_sheet: new",
-        "add_entry: new key",
-        "add_entry: known key",
-        "add_entry: refusal 1",
-        "add_entry: refusal 3",
-        "add_entry: refusal 5",
-        "add_entry: refusal 7",
-        "add_entry: refusal 8",
-        "add_entries: lines taken 0",
-        "add_entries: lines taken 1",
-        "add_entries: lines taken 2 and more",
-        "add_entries: refusal 1",
-        "add_entries: refusal 2",
-        "add_entries: refusal 3",
-        "add_entries: refusal 4",
-        "add_entries: refusal 5",
-        "add_entries: refusal 7",
-        "add_entries: refusal 8",
-        "say_word: runtime",
-        "say_word: addenda",
-        "say_word: compiled",
-        "say_word: letters",
-        "say_word: refusal 1",
-        "say_word: refusal 3",
-        "say_word: refusal 6",
-        "say_word: refusal 7",
-        "say_word: refusal 9",
-        "phone_string: at an utterance's end",
-        "utterance without words",
-        "utterance without phones",
-        "utterance of one word",
-        "utterance of 2 to 10 words",
-        "utterance of more words",
-        "utterance that saw one list of entries",
-        "utterance that saw several",
-        "word that is said otherwise the second time",
-        "refused call, then an accepted one",
-        "text that stops behind lines taken, then a word",
-        "sheet of 64 bytes",
-        "sheet of 128 bytes",
-        "sheet of up to 4,096 bytes",
-        "sheet of 65,536 bytes",
-        "store of one slot",
-        "store of 65,536 bytes",
-    ];
+    const MET: Table = &[&[CALLS], book::ROWS, ROWS];
+    const LIBRARY: Function = |_| unreachable!("a list is many calls of the library");
 
     fn short(&self) -> Vec<Input> {
         short::inputs()
@@ -186,108 +149,85 @@ impl Call for Lists {
         self.maker.list(random)
     }
 
-    fn expected(&self, input: &Input) -> Expected {
-        let mut met = vec![];
-        let outcome = self.run_beside(input, &mut met).map(|output| Outcome {
-            answer: Answer::accepted(0, input.steps.len()),
-            output,
-            altered: None,
-        });
-        met.extend(features(input));
-        Expected {
-            handed: vec![],
-            outcome,
-            asked: true,
-            row: match input.steps.len() {
-                0 => "lists of no call",
-                1..=5 => "lists of 1 to 5 calls",
-                6..=20 => "lists of 6 to 20 calls",
-                _ => "lists of more calls",
-            },
+    fn rule(&self, input: &Input, met: &mut Met) -> Ruling {
+        let mut beside = Beside {
+            book: Book::new(&input.sections),
             met,
-        }
+            refused: false,
+        };
+        let log = self.run(input, &mut beside)?;
+        met.all(lengths(input));
+        let row = match input.steps.len() {
+            0 => "lists of no call",
+            1..=5 => "lists of 1 to 5 calls",
+            6..=20 => "lists of 6 to 20 calls",
+            _ => "lists of more calls",
+        };
+        let answer = Answer::accepted(0, input.steps.len());
+        Ok(Told::new(answer, row, vec![log]))
     }
 
-    fn ours(&self, input: &Input, _handed: &[u8]) -> Outcome {
-        let (output, altered) = self.run_ours(input);
+    /// The log, which is all that is compared.
+    fn lent<'a>(&self, _input: &'a Input) -> Vec<Part<'a>> {
+        vec![Part::output(Form::Bytes, Room::PLAIN)]
+    }
+
+    fn ours(&self, input: &Input, _handed: &[Vec<u8>]) -> Outcome {
+        let mut library = Library::default();
+        let log = self.run(input, &mut library);
         Outcome {
             answer: Answer::accepted(0, input.steps.len()),
-            output,
-            altered,
+            written: vec![log.expect("the library is never at odds with itself")],
+            altered: library.altered,
         }
     }
 
-    fn smaller(&self, input: &Input) -> Vec<Input> {
-        smaller::inputs(input)
-    }
-
-    fn show(&self, input: &Input, _handed: &[u8]) -> String {
-        let mut text = String::from("a list of calls");
-        let sections = &input.sections;
-        text += &format!(
-            "\n    lex {}",
-            notation::lexicon(&sections.lexicon.sections)
-        );
-        text += &format!("\n    lts {}", say_word::trees(&sections.trees).join(" "));
-        text += &format!("\n  0 new_store {}", notation::bytes(&input.store));
-        text += &format!("\n  0 new_sheet {}", notation::bytes(&input.sheet));
+    fn show(&self, input: &Input, _handed: &[Vec<u8>]) -> String {
+        let Sections { lexicon, trees, .. } = &*input.sections;
+        let mut lines = vec![
+            "a list of calls".into(),
+            notation::line("    lex", &lexicon.sections.parts(), &[], &[]),
+            notation::line("    lts", &trees.sections.parts(), &[], &[]),
+            format!("  0 new_store {}", notation::bytes(&input.store)),
+            format!("  0 new_sheet {}", notation::bytes(&input.sheet)),
+        ];
         for (i, step) in (1..).zip(&input.steps) {
-            let broken = if step.broken {
-                " (broken sections)"
-            } else {
-                ""
+            let broken = match step.broken {
+                true => " (broken sections)",
+                false => "",
             };
-            text += &format!("\n  {i} {}{broken}", shown(input, &step.act));
+            lines.push(format!("  {i} {}{broken}", shown(&step.act)));
         }
-        text
+        lines.join("\n")
     }
 
-    fn show_output(&self, output: &[u8]) -> String {
-        log::shown(output)
-    }
-
-    /// Nothing: what a list says is recorded word by word.
-    fn record(&self, _random: &mut Random, _cases: usize) -> Vec<String> {
-        vec![]
+    fn show_written(&self, _input: &Input, outcome: &Outcome) -> String {
+        log::shown(&outcome.written.concat())
     }
 }
 
 /// A call as a line, without what it shares with the others.
-fn shown(input: &Input, act: &Act) -> String {
+fn shown(act: &Act) -> String {
     match act {
         Act::NewSheet => "new_sheet".into(),
-        Act::AddEntry {
-            word,
-            tag,
-            cells,
-            rest,
-        } => {
-            let list = [cells.concat(), rest.clone()].concat();
-            let (word, tag) = (notation::text(word), notation::text(tag));
-            format!("add_entry {word} {tag} {}", notation::phone_list(&list))
-        }
+        Act::AddEntry(given) => notation::line("add_entry", &given.parts(), &[], &[]),
         Act::AddText { text, fill, spare } => {
-            let spare = notation::bytes(&input.spare(*fill, *spare));
-            format!("add_entries {spare} {}", notation::bytes(text))
+            let len = spare.map_or("as long as the store".into(), |len| format!("{len} bytes"));
+            let text = notation::bytes(text);
+            format!("add_entries (a spare of {fill:02x}, {len}) {text}")
         }
-        Act::SayWord(Wanted { word, tag }) => {
-            format!("say_word {} {}", notation::text(word), notation::text(tag))
-        }
+        Act::SayWord(wanted) => notation::line("say_word", &wanted.parts(), &[], &[]),
     }
 }
 
-fn features(input: &Input) -> Vec<&'static str> {
-    let rows = [
-        ("sheet of 64 bytes", input.sheet.len() == ITEM),
-        ("sheet of 128 bytes", input.sheet.len() == 2 * ITEM),
-        ("sheet of up to 4,096 bytes", input.sheet.len() <= 4_096),
-        ("sheet of 65,536 bytes", input.sheet.len() == LARGEST),
-        ("store of one slot", input.store.len() == SLOT),
-        (
-            "store of 65,536 bytes",
-            input.store.len() == stores::LARGEST,
-        ),
-    ];
-    let met = rows.iter().filter(|row| row.1);
-    met.map(|row| row.0).collect()
+rows! { ROWS:
+    /// How long the store and the sheet of a list are.
+    lengths(input: &Input) [
+        "sheet of 64 bytes" => input.sheet.len() == ITEM,
+        "sheet of 128 bytes" => input.sheet.len() == 2 * ITEM,
+        "sheet of up to 4,096 bytes" => input.sheet.len() <= 4_096,
+        "sheet of 65,536 bytes" => input.sheet.len() == LARGEST,
+        "store of one slot" => input.store.len() == SLOT,
+        "store of 65,536 bytes" => input.store.len() == stores::LARGEST,
+    ]
 }

@@ -2,6 +2,7 @@
 
 pub mod add_entries;
 pub mod add_entry;
+mod adding;
 pub mod check_lexicon;
 pub mod is_sayable;
 pub mod is_vowel;

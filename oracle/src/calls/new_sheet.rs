@@ -1,111 +1,72 @@
 //! new_sheet: the first item of a sheet, written whole. The original has no such call; 01 says what is expected.
 
-use crate::call::{Call, Expected, Outcome};
-use crate::lent::{altered, Lent};
-use crate::notation;
-use crate::ours::{self, Answer};
-use crate::random::Random;
-use crate::sheet_edges;
-use crate::sheet_shapes;
-use crate::sheets::{self, ITEM, LARGEST};
-use crate::shrink::shorter;
+use crate::prelude::*;
+use crate::records::filled;
+use crate::sheets::LARGEST;
+
+#[derive(Clone)]
+pub struct Input {
+    pub sheet: Vec<u8>,
+}
+
+smaller!(Input: sheet by sheet_shapes::smaller);
 
 #[derive(Default)]
 pub struct NewSheet;
 
 impl Call for NewSheet {
-    type Input = Vec<u8>;
+    type Input = Input;
     const NAME: &'static str = "new_sheet";
     const SHARE: usize = 2;
-    const SHARE_RECORDED: usize = 0;
-    const ANSWERS: &'static [&'static str] = &["new", "refusal 2"];
-    const MET: &'static [&'static str] = &[
-        "sheet that is sound",
-        "sheet that is not",
-        "sheet of one item",
-        "sheet of 65,536 bytes",
-        "bytes behind the last whole item",
-        "later items that stay as they are",
-        "refusal 2: no bytes",
-        "refusal 2: fewer than 64 bytes",
-        "refusal 2: over 65,536 bytes",
-    ];
+    const ANSWERS: Rows = &["new"];
+    const REFUSALS: &'static [u32] = &[2];
+    const MET: Table = &[ROWS];
+    const LIBRARY: Function = ours::new_sheet;
 
-    fn short(&self) -> Vec<Vec<u8>> {
-        let filled = |len: usize| (0..len).map(|at| 1 + (at % 251) as u8).collect();
-        let mut inputs: Vec<Vec<u8>> = (0..6 * ITEM).map(filled).collect();
+    fn short(&self) -> Vec<Input> {
+        let mut sheets: Vec<Vec<u8>> = (0..6 * ITEM).map(filled).collect();
         for items in (1..=LARGEST / ITEM).step_by(31).chain([1_023, 1_024]) {
-            inputs.extend([0, 1, ITEM - 1].map(|more| filled(ITEM * items + more)));
+            sheets.extend([0, 1, ITEM - 1].map(|more| filled(ITEM * items + more)));
         }
-        inputs.extend(sheet_edges::limits());
-        inputs
+        sheets.extend(sheet_edges::limits());
+        sheets.into_iter().map(|sheet| Input { sheet }).collect()
     }
 
-    fn random(&mut self, random: &mut Random) -> Vec<u8> {
-        let items = match random.weighted(&[12, 2, 1]) {
-            0 => random.between(0, 20),
-            1 => random.between(21, 1_023),
-            _ => random.between(1_022, 1_026),
-        };
-        let len = ITEM * items + random.below(ITEM) * random.below(2);
-        match random.once_in(4) {
-            true => vec![random.byte(); len],
-            false => random.bytes(len),
-        }
+    fn random(&mut self, random: &mut Random) -> Input {
+        let items = random.ranged(&[(12, 0, 20), (2, 21, 1_023), (1, 1_022, 1_026)]);
+        let more = random.below(ITEM) * random.below(2);
+        let sheet = records::random(random, ITEM * items + more);
+        Input { sheet }
     }
 
-    fn expected(&self, sheet: &Vec<u8>) -> Expected {
-        let handed = sheet.clone();
-        if !sheets::has_length(sheet.len()) {
-            let met = match sheet.len() {
-                0 => "refusal 2: no bytes",
-                1..ITEM => "refusal 2: fewer than 64 bytes",
-                _ => "refusal 2: over 65,536 bytes",
-            };
-            return Expected::refused(2, handed, vec![met]);
-        }
-        let rows = [
-            ("sheet that is sound", sheets::read(sheet).is_ok()),
-            ("sheet that is not", sheets::read(sheet).is_err()),
-            ("sheet of one item", sheet.len() < 2 * ITEM),
-            ("sheet of 65,536 bytes", sheet.len() == LARGEST),
-            ("bytes behind the last whole item", sheet.len() % ITEM != 0),
-            (
-                "later items that stay as they are",
-                sheet[ITEM..].iter().any(|b| *b != 0),
-            ),
-        ];
-        let met = rows.iter().filter(|row| row.1).map(|row| row.0).collect();
-        Expected::accepted(Answer::accepted(0, 0), &[0; ITEM], handed, "new", met).by_01()
+    fn rule(&self, Input { sheet }: &Input, met: &mut Met) -> Ruling {
+        let len = sheet.len();
+        met.refuse(2, !sheets::has_length(len), || length(len))?;
+        met.all(before(sheet));
+        let new = vec![vec![0; ITEM]];
+        Ok(Told::new(Answer::accepted(0, 0), "new", new).by_01())
     }
 
-    fn ours(&self, _sheet: &Vec<u8>, handed: &[u8]) -> Outcome {
-        let mut sheet = Lent::new(handed);
-        let answer = ours::new_sheet(sheet.bytes_mut());
-        let output = sheet.bytes().to_vec();
-        Outcome {
-            answer,
-            altered: altered(&[("bytes beside the sheet", &sheet, &output)]),
-            output,
-        }
+    fn lent<'a>(&self, Input { sheet }: &'a Input) -> Vec<Part<'a>> {
+        vec![Part::written("the sheet", Form::Sheet, sheet)]
     }
+}
 
-    fn smaller(&self, sheet: &Vec<u8>) -> Vec<Vec<u8>> {
-        let mut all = shorter(sheet);
-        all.extend(sheet_shapes::smaller(sheet));
-        all
-    }
+rows! { ROWS:
+    /// What there is before.
+    before(sheet: &[u8]) [
+        "sheet that is sound" => sheets::read(sheet).is_ok(),
+        "sheet that is not" => sheets::read(sheet).is_err(),
+        "sheet of one item" => sheet.len() < 2 * ITEM,
+        "sheet of 65,536 bytes" => sheet.len() == LARGEST,
+        "bytes behind the last whole item" => sheet.len() % ITEM != 0,
+        "later items that stay as they are" => !zeros(&sheet[ITEM..]),
+    ]
 
-    fn show(&self, sheet: &Vec<u8>, _handed: &[u8]) -> String {
-        format!("new_sheet {}", notation::sheet(sheet))
-    }
-
-    fn show_output(&self, output: &[u8]) -> String {
-        notation::sheet(output)
-    }
-
-    /// Nothing: the list holds the original's answers alone.
-    fn record(&self, _random: &mut Random, _cases: usize) -> Vec<String> {
-        vec![]
-    }
+    /// Why a length is refused.
+    length(len: usize) [
+        "refusal 2: no bytes" => len == 0,
+        "refusal 2: fewer than 64 bytes" => (1..ITEM).contains(&len),
+        "refusal 2: over 65,536 bytes" => len > LARGEST,
+    ]
 }

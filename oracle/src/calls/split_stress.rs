@@ -1,25 +1,10 @@
 //! split_stress: a phone's stress and its bare phone. Not one of the eleven calls, but theirs rest on it.
 
-use crate::call::{ask, Call, Expected, Outcome};
-use crate::lent::{altered, Lent};
-use crate::notation;
-use crate::ours::{self, Answer};
-use crate::phones::Phones;
-use crate::random::Random;
-use crate::record::case;
-use crate::shrink::shorter;
-use original::lexicon;
+use crate::prelude::*;
 
+#[derive(Default)]
 pub struct SplitStress {
     phones: Phones,
-}
-
-impl SplitStress {
-    pub fn new() -> SplitStress {
-        SplitStress {
-            phones: Phones::new(),
-        }
-    }
 }
 
 impl Call for SplitStress {
@@ -27,9 +12,9 @@ impl Call for SplitStress {
     const NAME: &'static str = "split_stress";
     const SHARE: usize = 5;
     const SHARE_RECORDED: usize = 6;
-    const ANSWERS: &'static [&'static str] = &["stress 0", "stress 1", "no stress"];
-    const MET: &'static [&'static str] =
-        &["bare phone of 0 bytes", "bare phone that ends in a stress"];
+    const ANSWERS: Rows = &["stress 0", "stress 1", "no stress"];
+    const MET: Table = &[ROWS];
+    const LIBRARY: Function = ours::split_stress;
 
     fn short(&self) -> Vec<Vec<u8>> {
         self.phones.short()
@@ -39,12 +24,9 @@ impl Call for SplitStress {
         self.phones.phone(random)
     }
 
-    fn expected(&self, phone: &Vec<u8>) -> Expected {
-        let name = std::str::from_utf8(phone).expect("phones tried are ASCII");
-        let (bare, stress) = match ask(|| lexicon::split_stress(name)) {
-            Ok(split) => split,
-            Err(said) => return Expected::panicked(said, vec![]),
-        };
+    fn rule(&self, phone: &Vec<u8>, met: &mut Met) -> Ruling {
+        let name = ascii(phone);
+        let (bare, stress) = ask(|| lexicon::split_stress(name))?;
         // the library tells the bare phone by its length alone
         assert!(name.starts_with(bare), "the bare phone is the front");
         let (kind, row) = match stress {
@@ -53,39 +35,26 @@ impl Call for SplitStress {
             None => (0, "no stress"),
             Some(other) => panic!("the original tells stress {other}"),
         };
-        let mut met = vec![];
-        if stress.is_some() && bare.is_empty() {
-            met.push("bare phone of 0 bytes");
-        }
-        if stress.is_some() && bare.ends_with(['0', '1']) {
-            met.push("bare phone that ends in a stress");
+        if stress.is_some() {
+            met.all(of_bare(bare));
         }
         let answer = Answer::accepted(kind, bare.len());
-        Expected::accepted(answer, &[], vec![], row, met)
+        Ok(Told::new(answer, row, vec![]))
     }
 
-    fn ours(&self, phone: &Vec<u8>, _handed: &[u8]) -> Outcome {
-        let lent = Lent::new(phone);
-        Outcome {
-            answer: ours::split_stress(lent.bytes()),
-            output: vec![],
-            altered: altered(&[("the phone", &lent, phone)]),
-        }
-    }
-
-    fn smaller(&self, phone: &Vec<u8>) -> Vec<Vec<u8>> {
-        shorter(phone)
-    }
-
-    fn show(&self, phone: &Vec<u8>, _handed: &[u8]) -> String {
-        format!("split_stress {}", notation::text(phone))
+    fn lent<'a>(&self, phone: &'a Vec<u8>) -> Vec<Part<'a>> {
+        vec![Part::read("the phone", Form::Text, phone)]
     }
 
     fn record(&self, random: &mut Random, cases: usize) -> Vec<String> {
-        let mut lines = vec!["# stress".to_string()];
-        for phone in self.phones.to_record(random, cases) {
-            lines.push(case(&self.show(&phone, &[]), &self.expected(&phone)));
-        }
-        lines
+        record::cases(self, "stress", &self.phones.to_record(random, cases))
     }
+}
+
+rows! { ROWS:
+    /// What a phone has behind whose stress was taken off.
+    of_bare(bare: &str) [
+        "bare phone of 0 bytes" => bare.is_empty(),
+        "bare phone that ends in a stress" => bare.ends_with(['0', '1']),
+    ]
 }

@@ -1,37 +1,21 @@
 //! syllabify: the marks after the phones of a list.
 
-use crate::call::{ask, Call, Expected, Outcome};
-use crate::cells::{cell, spoil_padding, text, CELL};
-use crate::lent::{altered, Lent, Room, Size};
-use crate::notation;
-use crate::ours::{self, Answer};
-use crate::phones::Phones;
-use crate::random::Random;
-use crate::record::case_with_output;
-use crate::shrink::shorter;
-use original::{lexicon, phoneset};
+use crate::prelude::*;
 
 /// The longest list that 01 accepts.
 const LONGEST: usize = 96;
 
 #[derive(Clone)]
 pub struct Input {
-    cells: Vec<[u8; CELL]>,
-    /// Bytes behind the last cell, fewer than a cell has.
-    rest: Vec<u8>,
+    list: List,
     room: Room,
 }
 
+smaller!(Input: list, room);
+
+#[derive(Default)]
 pub struct Syllabify {
     phones: Phones,
-}
-
-impl Syllabify {
-    pub fn new() -> Syllabify {
-        Syllabify {
-            phones: Phones::new(),
-        }
-    }
 }
 
 impl Call for Syllabify {
@@ -39,39 +23,16 @@ impl Call for Syllabify {
     const NAME: &'static str = "syllabify";
     const SHARE: usize = 30;
     const SHARE_RECORDED: usize = 33;
-    const ANSWERS: &'static [&'static str] = &[
+    const ANSWERS: Rows = &[
         "marks 0",
         "one syllable",
         "2 syllables",
         "3 to 6 syllables",
         "7 syllables and more",
-        "refusal 3",
-        "refusal 7",
-        "refusal 9",
     ];
-    const MET: &'static [&'static str] = &[
-        "place: the last",
-        "place: next is pau",
-        "place: no vowel later",
-        "place: no vowel yet",
-        "place: next is a vowel",
-        "place: next is ng",
-        "place: vowel second",
-        "place: vowel third, onset",
-        "place: vowel third, no onset",
-        "place: vowel fourth, onset",
-        "place: vowel fourth, no onset",
-        "place: vowel later still",
-        "onset of phones that are in no table",
-        "phone of 0 bytes",
-        "phone of 15 bytes",
-        "vowel with a stress, so a consonant",
-        "list of 96 phones",
-        "bytes behind the last cell",
-        "bytes past a text",
-        "output exact",
-        "output longer",
-    ];
+    const REFUSALS: &'static [u32] = &[3, 7, 9];
+    const MET: Table = &[&[PLACES, OUTPUT], cells::PHONES, ROWS, cells::UNREAD];
+    const LIBRARY: Function = ours::syllabify;
 
     fn short(&self) -> Vec<Input> {
         let mut inputs = edges();
@@ -88,41 +49,37 @@ impl Call for Syllabify {
             2 => LONGEST,
             _ => random.between(LONGEST + 1, LONGEST + 30),
         };
-        let list = self.phones.list(random, len);
-        let mut cells: Vec<[u8; CELL]> = list.iter().map(|p| cell(p)).collect();
+        let mut list = List::of(&self.phones.list(random, len));
         if random.once_in(6) {
-            cells.iter_mut().for_each(|c| spoil_padding(random, c));
+            list.spoil_padding(random);
         }
         if len > 0 && random.once_in(30) {
-            cells[random.below(len)][0] = random.between(16, 255) as u8;
+            list.cells[random.below(len)][0] = random.between(16, 255) as u8;
         }
         if len > 0 && random.once_in(30) {
             let at = random.between(1, CELL - 1);
-            cells[random.below(len)][at] = 128 + random.below(128) as u8;
+            list.cells[random.below(len)][at] = 128 + random.below(128) as u8;
         }
         let rest = match random.once_in(5) {
             true => random.between(0, CELL - 1),
             false => 0,
         };
+        list.rest = random.bytes(rest);
         Input {
-            cells,
-            rest: random.bytes(rest),
+            list,
             room: Room::random(random, 20),
         }
     }
 
-    fn expected(&self, input: &Input) -> Expected {
-        let count = input.cells.len();
-        let handed = input.room.bytes(count);
-        let refusal = refusal(input, &handed);
-        if refusal != 0 {
-            return Expected::refused(refusal, handed, vec![]);
-        }
-        let phones: Vec<&str> = input.cells.iter().map(name).collect();
-        let marks = match ask(|| lexicon::syllabify(&phones)) {
-            Ok(marks) => marks,
-            Err(said) => return Expected::panicked(said, handed),
-        };
+    fn rule(&self, input: &Input, met: &mut Met) -> Ruling {
+        let cells = &input.list.cells;
+        let count = cells.len();
+        let too_long = count > LONGEST || cells.iter().any(is_over);
+        met.refuse(3, cells.iter().any(is_high), || None)
+            .and_then(|()| met.refuse(7, too_long, || None))
+            .map_err(|refusal| Stop::Refused(refusal, count))?;
+        let phones: Vec<&str> = cells.iter().map(|cell| ascii(text(cell))).collect();
+        let marks = ask(|| lexicon::syllabify(&phones))?;
         let row = match marks.iter().filter(|cut| **cut).count() {
             0 => "marks 0",
             1 => "one syllable",
@@ -130,85 +87,27 @@ impl Call for Syllabify {
             3..=6 => "3 to 6 syllables",
             _ => "7 syllables and more",
         };
-        let mut met = rules(&phones, &marks);
-        met.extend(features(input, &phones, &handed));
+        met.all(places(&phones, &marks));
+        met.all(cells::of_phones(&phones));
+        met.all(features(&phones));
+        met.all(cells::unread(&input.list));
         let marks: Vec<u8> = marks.into_iter().map(u8::from).collect();
-        Expected::accepted(Answer::accepted(0, count), &marks, handed, row, met)
+        Ok(Told::new(Answer::accepted(0, count), row, vec![marks]))
     }
 
-    fn ours(&self, input: &Input, handed: &[u8]) -> Outcome {
-        let list = bytes(input);
-        let phones = Lent::new(&list);
-        let mut out = Lent::new(handed);
-        let answer = ours::syllabify(phones.bytes(), out.bytes_mut());
-        let output = out.bytes().to_vec();
-        let altered = altered(&[
-            ("the phones", &phones, &list),
-            ("bytes beside the output", &out, &output),
-        ]);
-        Outcome {
-            answer,
-            output,
-            altered,
-        }
-    }
-
-    fn smaller(&self, input: &Input) -> Vec<Input> {
-        let mut all = vec![];
-        for cells in shorter(&input.cells) {
-            all.push(Input {
-                cells,
-                ..input.clone()
-            });
-        }
-        for rest in shorter(&input.rest) {
-            all.push(Input {
-                rest,
-                ..input.clone()
-            });
-        }
-        for room in input.room.smaller() {
-            all.push(Input {
-                room,
-                ..input.clone()
-            });
-        }
-        for (i, given) in input.cells.iter().enumerate() {
-            // t and ae are plain enough
-            if [cell(b"t"), cell(b"ae")].contains(given) {
-                continue;
-            }
-            for plainer in [cell(b"t"), cell(b"ae"), cell(text(given))] {
-                let mut cells = input.cells.clone();
-                cells[i] = plainer;
-                if plainer != *given {
-                    all.push(Input {
-                        cells,
-                        ..input.clone()
-                    });
-                }
-            }
-        }
-        all
-    }
-
-    fn show(&self, input: &Input, handed: &[u8]) -> String {
-        let list = notation::phone_list(&bytes(input));
-        format!("syllabify {list} {}", notation::bytes(handed))
+    fn lent<'a>(&self, input: &'a Input) -> Vec<Part<'a>> {
+        let marks = Part::output(Form::Bytes, input.room);
+        vec![input.list.part(), marks]
     }
 
     fn record(&self, random: &mut Random, cases: usize) -> Vec<String> {
         let mut inputs = edges();
-        inputs.retain(|input| refusal(input, &input.room.bytes(input.cells.len())) == 0);
+        inputs.retain(|input| self.accepts(input));
         // a part of the short lists, taken at even steps
         let short = self.short_lists();
         let step = short.len() / (cases / 4).max(1);
-        inputs.extend(
-            short
-                .iter()
-                .step_by(step.max(1))
-                .map(|list| input(list, Size::Exact)),
-        );
+        let some = short.iter().step_by(step.max(1));
+        inputs.extend(some.map(|list| input(list, Size::Exact)));
         while inputs.len() < cases {
             let len = match random.once_in(12) {
                 true => random.between(13, LONGEST),
@@ -217,26 +116,25 @@ impl Call for Syllabify {
             let list = self.phones.list(random, len);
             let mut made = input(&list, Size::Exact);
             if random.once_in(16) {
-                made.cells.iter_mut().for_each(|c| spoil_padding(random, c));
+                made.list.spoil_padding(random);
             }
             if random.once_in(8) {
                 let rest = random.between(1, CELL - 1);
-                made.rest = vec![random.byte(); rest];
+                made.list.rest = vec![random.byte(); rest];
             }
             made.room = Room::to_record(random, 20);
             inputs.push(made);
         }
-        let mut lines = vec!["# phone lists".to_string()];
-        for input in &inputs {
-            let expected = self.expected(input);
-            let shown = self.show(input, &expected.handed);
-            lines.push(case_with_output(&shown, &expected, notation::bytes));
-        }
-        lines
+        record::cases(self, "phone lists", &inputs)
     }
 }
 
 impl Syllabify {
+    fn accepts(&self, input: &Input) -> bool {
+        let outcome = self.expected(input).outcome;
+        outcome.is_ok_and(|outcome| outcome.answer.refusal == 0)
+    }
+
     /// Every short list over phones that the rules tell apart, and every cluster between two vowels.
     fn short_lists(&self) -> Vec<Vec<&'static str>> {
         let mixed = [
@@ -248,35 +146,25 @@ impl Syllabify {
             "s", "p", "t", "k", "r", "l", "w", "y", "th", "sh", "h", "hh", "st", "ng", "pau", "",
         ];
         let between = |middle: Vec<&'static str>| [&["ae"], &middle[..], &["ae"]].concat();
-        let mut lists: Vec<Vec<&'static str>> = (0..=3).flat_map(|n| every(&mixed, n)).collect();
-        lists.extend((4..=5).flat_map(|n| every(&few, n)));
-        lists.extend(every(&self.phones.names, 2).into_iter().map(between));
-        lists.extend(every(&clustered, 3).into_iter().map(between));
+        let of_length = |alphabet: &[&'static str], least: usize, most: usize| {
+            let lists = words::every(alphabet, most).into_iter();
+            lists.filter(move |list| list.len() >= least)
+        };
+        let mut lists = words::every(&mixed, 3);
+        lists.extend(of_length(&few, 4, 5));
+        lists.extend(of_length(&self.phones.names, 2, 2).map(between));
+        lists.extend(of_length(&clustered, 3, 3).map(between));
         lists
     }
 }
 
-/// Every list of a length.
-fn every(alphabet: &[&'static str], len: usize) -> Vec<Vec<&'static str>> {
-    let mut lists = vec![vec![]];
-    for _ in 0..len {
-        let longer = |list: &Vec<&'static str>| {
-            let list = list.clone();
-            alphabet.iter().map(move |p| [&list[..], &[*p]].concat())
-        };
-        lists = lists.iter().flat_map(longer).collect();
-    }
-    lists
-}
-
 fn input<T: AsRef<[u8]>>(list: &[T], size: Size) -> Input {
     Input {
-        cells: list.iter().map(|p| cell(p.as_ref())).collect(),
-        rest: vec![],
+        list: List::of(list),
         room: Room {
-            size,
             fill: 0x39,
             step: 0,
+            ..Room::of(size)
         },
     }
 }
@@ -314,9 +202,10 @@ fn edges() -> Vec<Input> {
             inputs.push(input(&vec![phone; len], Size::Short(1)));
         }
     }
-    let plain = |cells: Vec<[u8; CELL]>| Input {
-        cells,
-        ..input::<&str>(&[], Size::Exact)
+    let plain = |cells: &[Cell]| {
+        let mut input = input::<&str>(&[], Size::Exact);
+        input.list.cells = cells.to_vec();
+        input
     };
     let long = |len: u8, last: u8| {
         let mut cell = cell(&[b'a'; 15]);
@@ -336,48 +225,42 @@ fn edges() -> Vec<Input> {
         (2, 255),
         (0, 255),
     ] {
-        inputs.push(plain(vec![long(len, last)]));
+        inputs.push(plain(&[long(len, last)]));
         // 3 and 7 look at every cell, also past the 96th
         let mut cells = vec![cell(b"ae"); 97];
         cells[96] = long(len, last);
-        inputs.push(plain(cells.clone()));
-        inputs.push(plain(cells[1..].to_vec()));
+        inputs.push(plain(&cells));
+        inputs.push(plain(&cells[1..]));
     }
     for rest in [1, 15] {
         for len in [0, 1, 96, 97] {
             let mut input = input(&vec!["ae"; len], Size::Exact);
-            input.rest = vec![255; rest];
+            input.list.rest = vec![255; rest];
             inputs.push(input);
         }
     }
     inputs
 }
 
-fn bytes(input: &Input) -> Vec<u8> {
-    [input.cells.concat(), input.rest.clone()].concat()
-}
-
-fn name(cell: &[u8; CELL]) -> &str {
-    std::str::from_utf8(text(cell)).expect("accepted phones are ASCII")
-}
-
-/// Which refusal 01 gives; 0 if none.
-fn refusal(input: &Input, handed: &[u8]) -> u32 {
-    if input.cells.iter().any(|cell| !text(cell).is_ascii()) {
-        return 3;
-    }
-    let too_long = |cell: &[u8; CELL]| usize::from(cell[0]) >= CELL;
-    if input.cells.len() > LONGEST || input.cells.iter().any(too_long) {
-        return 7;
-    }
-    if handed.len() < input.cells.len() {
-        return 9;
-    }
-    0
-}
+/// What decides a place, and whether an onset is an odd one.
+const PLACES: Rows = &[
+    "place: the last",
+    "place: next is pau",
+    "place: no vowel later",
+    "place: no vowel yet",
+    "place: next is a vowel",
+    "place: next is ng",
+    "place: vowel second",
+    "place: vowel third, onset",
+    "place: vowel third, no onset",
+    "place: vowel fourth, onset",
+    "place: vowel fourth, no onset",
+    "place: vowel later still",
+    "onset of phones that are in no table",
+];
 
 /// The rule of 01 that decides each place, by the original's own marks.
-fn rules(phones: &[&str], marks: &[bool]) -> Vec<&'static str> {
+fn places(phones: &[&str], marks: &[bool]) -> Vec<&'static str> {
     let vowel: Vec<bool> = phones.iter().map(|p| phoneset::is_vowel(p)).collect();
     let mut rows = vec![];
     let mut seen = false;
@@ -410,23 +293,15 @@ fn rules(phones: &[&str], marks: &[bool]) -> Vec<&'static str> {
     rows
 }
 
-fn features(input: &Input, phones: &[&str], handed: &[u8]) -> Vec<&'static str> {
-    let stressed = |p: &&str| {
-        let (bare, stress) = lexicon::split_stress(p);
-        stress.is_some() && phoneset::is_vowel(bare)
-    };
-    let stressed = phones.iter().any(stressed);
-    let spoiled = |given: &[u8; CELL]| cell(text(given)) != *given;
-    let rows = [
-        ("phone of 0 bytes", phones.contains(&"")),
-        ("phone of 15 bytes", phones.iter().any(|p| p.len() == 15)),
-        ("vowel with a stress, so a consonant", stressed),
-        ("list of 96 phones", phones.len() == LONGEST),
-        ("bytes behind the last cell", !input.rest.is_empty()),
-        ("bytes past a text", input.cells.iter().any(spoiled)),
-        ("output exact", handed.len() == phones.len()),
-        ("output longer", handed.len() > phones.len()),
-    ];
-    let met = rows.iter().filter(|row| row.1);
-    met.map(|row| row.0).collect()
+rows! { ROWS:
+    /// What the phones of an accepted list have.
+    features(phones: &[&str]) {
+        let stressed = |phone: &&str| {
+            let (bare, stress) = lexicon::split_stress(phone);
+            stress.is_some() && phoneset::is_vowel(bare)
+        };
+    } [
+        "vowel with a stress, so a consonant" => phones.iter().any(stressed),
+        "list of 96 phones" => phones.len() == LONGEST,
+    ]
 }

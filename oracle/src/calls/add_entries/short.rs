@@ -1,13 +1,7 @@
 //! The short inputs of add_entries.
 
 use super::Input;
-use crate::lexicon_edges;
-use crate::lexicons::Lexicon;
-use crate::scene::Scene;
-use crate::store_edges;
-use crate::stores;
-use crate::words;
-use std::rc::Rc;
+use crate::prelude::*;
 
 pub fn inputs() -> Vec<Input> {
     let mut inputs = edges();
@@ -16,11 +10,11 @@ pub fn inputs() -> Vec<Input> {
     inputs
 }
 
-fn input(scene: &Rc<Scene>, text: &[u8]) -> Input {
+fn input(scene: &Rc<Scene>, text: impl Into<Vec<u8>>) -> Input {
     Input {
         scene: scene.clone(),
         spare: vec![0x99; scene.store.len()],
-        text: text.to_vec(),
+        text: text.into(),
     }
 }
 
@@ -30,7 +24,7 @@ fn short_texts() -> Vec<Input> {
     let scene = Rc::new(Scene::new(&lexicon, stores::new(2, 0x22)));
     let mut inputs = vec![];
     for text in words::every(b"a:\"\n #b", 5) {
-        inputs.push(input(&scene, &text));
+        inputs.push(input(&scene, text));
     }
     for byte in 0..128 {
         for (before, behind) in [
@@ -41,7 +35,7 @@ fn short_texts() -> Vec<Input> {
             ("a n:a\n", ""),
         ] {
             let text = [before.as_bytes(), &[byte], behind.as_bytes()].concat();
-            inputs.push(input(&scene, &text));
+            inputs.push(input(&scene, text));
         }
     }
     inputs

@@ -1,91 +1,50 @@
 //! What 01 and the original make of an add.
 
-use super::{AddEntry, Input};
-use crate::call::{ask, Call};
-use crate::cells::{cell, text, CELL};
+use super::Input;
 use crate::lexicons::is_of_the_50;
-use crate::scene::{ascii, key, ways};
-use crate::store_edges;
-use crate::stores::{self, Entry, MOST_PHONES, SLOT};
-use crate::words;
-use original::lexicon::LexiconError;
+use crate::prelude::*;
 
-/// Which refusal 01 gives; 0 if none. Tells what made it.
-pub fn refusal(input: &Input, met: &mut Vec<&'static str>) -> u32 {
-    let lexicon = &input.scene.lexicon;
-    if lexicon.names.is_none() {
-        return 1;
-    }
-    let entries = match &input.scene.entries {
-        Ok(entries) => entries,
-        Err(why) => {
-            met.push(why);
-            return 2;
-        }
-    };
-    let over = |cell: &[u8; CELL]| usize::from(cell[0]) >= CELL;
-    let high = |cell: &[u8; CELL]| !text(cell).is_ascii();
-    let unknown = |cell: &[u8; CELL]| over(cell) || !lexicon.knows(text(cell));
-    let (front, behind) = input.cells.split_at(input.cells.len().min(MOST_PHONES));
-    let mut add = |row, is_met: bool| {
-        if is_met {
-            met.push(row);
-        }
-    };
-    if words::is_refused(&input.word)
-        || words::is_refused(&input.tag)
-        || input.cells.iter().any(high)
-    {
-        add("3: long word", input.word.len() > words::LONGEST);
-        add("3: word with a high byte", !input.word.is_ascii());
-        add("3: long tag", input.tag.len() > words::LONGEST);
-        add("3: tag with a high byte", !input.tag.is_ascii());
-        let long = |cell: &[u8; CELL]| over(cell) && high(cell);
-        add("3: phone with a high byte", input.cells.iter().any(high));
-        add(
-            "3: cell over 15 with a high byte",
-            input.cells.iter().any(long),
-        );
-        let past = !front.iter().any(high) && behind.iter().any(high);
-        add("3: in a cell past the 24th", past);
-        return 3;
-    }
-    if input.cells.iter().any(unknown) {
-        add("5: phone in no table", !input.cells.iter().any(over));
-        add("5: cell over 15", input.cells.iter().any(over));
-        add("5: in a cell past the 24th", !front.iter().any(unknown));
-        return 5;
-    }
-    let key = key(&input.word, &input.tag);
+/// The refusal that 01 gives, if it gives one. Tells what made it.
+pub fn refusal(input: &Input, met: &mut Met) -> Result<(), u32> {
+    let Input { scene, given } = input;
+    let Add { wanted, phones } = given;
+    let cells = &phones.cells;
+    met.refuse(1, scene.lexicon.names.is_none(), || None)?;
+    met.sound(&scene.entries)?;
+    let high = wanted.is_refused() || cells.iter().any(is_high);
+    met.refuse(3, high, || by_3(given))?;
+    let unknown = |cell: &Cell| is_over(cell) || !scene.lexicon.knows(text(cell));
+    let first = cells.iter().position(unknown);
+    met.refuse(5, first.is_some(), || {
+        by_5(phones, first >= Some(MOST_PHONES))
+    })?;
+    let key = key(&wanted.word, &wanted.tag);
+    let entries = scene.entries();
     let is_known = entries.iter().any(|p| p.entry.key() == (&key.0[..], key.1));
-    let is_full = entries.len() == stores::room(&input.scene.store);
-    if !behind.is_empty() {
-        add("7: 25 phones", input.cells.len() == MOST_PHONES + 1);
-        add("7: over 96 phones", input.cells.len() > 96);
-        add("7: store without an unused slot", is_full && !is_known);
-        return 7;
-    }
-    if is_full && !is_known {
-        add("8: store of one slot", entries.is_empty());
-        add("8: 127 entries", entries.len() == 127);
-        return 8;
-    }
-    0
+    let lacks_room = entries.len() == stores::room(&scene.store) && !is_known;
+    let count = cells.len();
+    met.refuse(7, count > MOST_PHONES, || by_7(count, lacks_room))?;
+    met.refuse(8, lacks_room, || by_8(entries.len()))
 }
 
-fn phones(input: &Input) -> Vec<&str> {
-    input.cells.iter().map(|cell| ascii(text(cell))).collect()
+/// What the original answers to an add, and its list after it, for each way to hand it the tag.
+fn asked(input: &Input) -> Result<Vec<(Result<(), LexiconError>, Vec<Entry>)>, String> {
+    let Add { wanted, phones } = &input.given;
+    let phones: Vec<&str> = phones.texts().into_iter().map(ascii).collect();
+    let add = |pos| {
+        ask(|| {
+            let scene = &input.scene;
+            scene.changed(|lexicon| lexicon.add_entry(ascii(&wanted.word), pos, &phones))
+        })
+    };
+    ways(&wanted.tag).into_iter().map(add).collect()
 }
 
 /// The original's list after an accepted add, and the store that 01 makes of it.
 pub fn added(input: &Input) -> Result<(Vec<Entry>, Vec<u8>), String> {
-    let scene = &input.scene;
-    let key = key(&input.word, &input.tag);
+    let Input { scene, given } = input;
     let mut lists = vec![];
-    for pos in ways(&input.tag) {
-        let add =
-            || scene.changed(|lexicon| lexicon.add_entry(ascii(&input.word), pos, &phones(input)));
-        let (told, list) = ask(add).map_err(|said| format!("the original panics: {said}"))?;
+    for (told, list) in asked(input)? {
         told.map_err(|error| format!("the original refuses: {error}"))?;
         lists.push(list);
     }
@@ -93,8 +52,9 @@ pub fn added(input: &Input) -> Result<(Vec<Entry>, Vec<u8>), String> {
         return Err("the original takes no tag and an empty one for two things".into());
     }
     let list = lists.swap_remove(0);
+    let key = key(&given.wanted.word, &given.wanted.tag);
     let slot = scene.slot_for(&key);
-    let store = scene.store_of(std::slice::from_ref(&key), &list)?;
+    let store = scene.store_of(&[key], &list)?;
     let stray = stores::stray(&scene.store, &store, slot);
     assert!(
         stray.is_none(),
@@ -105,12 +65,8 @@ pub fn added(input: &Input) -> Result<(Vec<Entry>, Vec<u8>), String> {
 
 /// The original's refusal of a phone that it does not know, which leaves its list as it was.
 pub fn refused_by_the_original(input: &Input) -> Result<(), String> {
-    let scene = &input.scene;
-    for pos in ways(&input.tag) {
-        let add =
-            || scene.changed(|lexicon| lexicon.add_entry(ascii(&input.word), pos, &phones(input)));
-        let (told, list) = ask(add).map_err(|said| format!("the original panics: {said}"))?;
-        let before = scene.entries().iter().map(|placed| &placed.entry);
+    for (told, list) in asked(input)? {
+        let before = input.scene.entries().iter().map(|placed| &placed.entry);
         let kept = list.iter().eq(before);
         match told {
             Err(LexiconError::UnknownPhone { .. }) if kept => {}
@@ -120,78 +76,81 @@ pub fn refused_by_the_original(input: &Input) -> Result<(), String> {
     Ok(())
 }
 
-/// The row of an accepted add, and what it met.
-pub fn features(input: &Input, list: &[Entry], store: &[u8]) -> (&'static str, Vec<&'static str>) {
-    let scene = &input.scene;
-    let before = scene.entries();
-    let lexicon = &scene.lexicon;
-    let (word, tag) = (&input.word, &input.tag);
-    let key = key(word, tag);
-    let texts = || input.cells.iter().map(text);
-    let names = lexicon.names.as_deref().unwrap_or_default();
-    let of_table = |phone: &[u8]| names.iter().any(|name| name == phone);
-    let spoiled = |given: &[u8; CELL]| cell(text(given)) != *given;
-    let at = before
-        .iter()
-        .position(|p| p.entry.key() == (&key.0[..], key.1));
-    let is_full = before.len() == stores::room(&scene.store);
-    let mut rows = store_edges::features(&scene.store, before);
-    rows.retain(|row| AddEntry::MET.contains(row));
-    let mut add = |row, is_met: bool| {
-        if is_met {
-            rows.push(row);
-        }
-    };
-    match at {
-        None => {
-            let slot = SLOT * list.len();
-            let over = scene.store[slot..slot + SLOT].iter().any(|b| *b != 0);
-            let other = before.iter().any(|p| p.entry.word == key.0);
-            add("new: the first entry", before.is_empty());
-            add(
-                "new: takes the last unused slot",
-                list.len() == stores::room(store),
-            );
-            add("new: entry 127", list.len() == 127);
-            add("new: written over anything", over);
-            add("new: word known with another tag", other);
-        }
-        Some(at) => {
-            let (count, was) = (input.cells.len(), before[at].entry.phones.len());
-            let last = before.len() - 1;
-            add("known: the only entry", last == 0);
-            add("known: was the first", at == 0 && last > 0);
-            add("known: was in the middle", at > 0 && at < last);
-            add("known: was the last, and stays", at == last && last > 0);
-            add("known: fewer phones than before", count < was);
-            add("known: more phones than before", count > was);
-            add("known: nothing changes", store == &scene.store[..]);
-            add("known: no unused slot", is_full);
-        }
-    }
-    add("tag empty", tag.is_empty());
-    add("tag 'nil'", tag == b"nil");
-    add("tag '0'", tag == b"0");
-    add("tag of one byte", tag.len() == 1);
-    add("tag of more bytes", tag.len() > 1 && tag != b"nil");
-    add("tag of 47 bytes", tag.len() == words::LONGEST);
-    add("empty word", word.is_empty());
-    add("word of 47 bytes", word.len() == words::LONGEST);
-    add("capital letter", key.0 != *word);
-    add("no phones", input.cells.is_empty());
-    add("24 phones", input.cells.len() == MOST_PHONES);
-    add(
-        "phone of lex.phones alone",
-        texts().any(|phone| of_table(phone) && !is_of_the_50(phone)),
-    );
-    add(
-        "phone of the 50 alone",
-        texts().any(|phone| !of_table(phone)),
-    );
-    add("phone of 0 bytes", texts().any(|phone| phone.is_empty()));
-    add("phone of 15 bytes", texts().any(|phone| phone.len() == 15));
-    add("bytes past a text", input.cells.iter().any(spoiled));
-    add("bytes behind the last cell", !input.rest.is_empty());
-    let row = if at.is_some() { "known key" } else { "new key" };
-    (row, rows)
+rows! { pub ROWS:
+    /// What a word, a tag or a phone has that is refused by 3.
+    by_3(given: &Add) {
+        let Add { wanted, phones } = given;
+        let cells = &phones.cells;
+        let (front, behind) = cells.split_at(cells.len().min(MOST_PHONES));
+    } [
+        "3: long word" => wanted.word.len() > words::LONGEST,
+        "3: word with a high byte" => !wanted.word.is_ascii(),
+        "3: long tag" => wanted.tag.len() > words::LONGEST,
+        "3: tag with a high byte" => !wanted.tag.is_ascii(),
+        "3: phone with a high byte" => cells.iter().any(is_high),
+        "3: cell over 15 with a high byte" => cells.iter().any(|cell| is_over(cell) && is_high(cell)),
+        "3: in a cell past the 24th" => !front.iter().any(is_high) && behind.iter().any(is_high),
+    ]
+
+    /// What phones have that are refused by 5.
+    by_5(phones: &List, past_the_24th: bool) {
+        let over = phones.cells.iter().any(is_over);
+    } [
+        "5: phone in no table" => !over,
+        "5: cell over 15" => over,
+        "5: in a cell past the 24th" => past_the_24th,
+    ]
+
+    /// What an add has that is refused by 7.
+    by_7(count: usize, lacks_room: bool) [
+        "7: 25 phones" => count == MOST_PHONES + 1,
+        "7: over 96 phones" => count > 96,
+        "7: store without an unused slot" => lacks_room,
+    ]
+
+    /// What a full store has.
+    by_8(entries: usize) [
+        "8: store of one slot" => entries == 0,
+        "8: 127 entries" => entries == 127,
+    ]
+
+    /// What an add of a new key met, which made so many entries.
+    of_new(scene: &Scene, word: &[u8], entries: usize) {
+        let before = scene.entries();
+        let slot = &scene.store[SLOT * entries..][..SLOT];
+    } [
+        "new: the first entry" => before.is_empty(),
+        "new: takes the last unused slot" => entries == stores::room(&scene.store),
+        "new: entry 127" => entries == 127,
+        "new: written over anything" => !zeros(slot),
+        "new: word known with another tag" => before.iter().any(|p| p.entry.word == word),
+    ]
+
+    /// What an add met whose key was known at this place of the list.
+    of_known(scene: &Scene, at: usize, given: &Add, store: &[u8]) {
+        let before = scene.entries();
+        let last = before.len() - 1;
+        let (count, was) = (given.phones.cells.len(), before[at].entry.phones.len());
+    } [
+        "known: the only entry" => last == 0,
+        "known: was the first" => at == 0 && last > 0,
+        "known: was in the middle" => at > 0 && at < last,
+        "known: was the last, and stays" => at == last && last > 0,
+        "known: fewer phones than before" => count < was,
+        "known: more phones than before" => count > was,
+        "known: nothing changes" => store == &scene.store[..],
+        "known: no unused slot" => before.len() == stores::room(&scene.store),
+    ]
+
+    /// What the phones of an accepted add have.
+    of_list(lexicon: &Lexicon, phones: &List) {
+        let names = lexicon.names.as_deref().unwrap_or_default();
+        let of_table = |phone: &[u8]| names.iter().any(|name| name == phone);
+        let of_table_alone = |phone: &[u8]| of_table(phone) && !is_of_the_50(phone);
+    } [
+        "no phones" => phones.cells.is_empty(),
+        "24 phones" => phones.cells.len() == MOST_PHONES,
+        "phone of lex.phones alone" => phones.cells.iter().map(text).any(of_table_alone),
+        "phone of the 50 alone" => !phones.cells.iter().map(text).all(of_table),
+    ]
 }

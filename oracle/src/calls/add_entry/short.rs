@@ -1,15 +1,7 @@
 //! The short inputs of add_entry.
 
 use super::Input;
-use crate::cells::cell;
-use crate::lexicon_edges;
-use crate::lexicons::Lexicon;
-use crate::phones::Phones;
-use crate::scene::Scene;
-use crate::store_edges;
-use crate::stores;
-use crate::words;
-use std::rc::Rc;
+use crate::prelude::*;
 
 pub fn inputs(phones: &Phones) -> Vec<Input> {
     let mut inputs = edges();
@@ -19,13 +11,18 @@ pub fn inputs(phones: &Phones) -> Vec<Input> {
     inputs
 }
 
-pub fn input(scene: &Rc<Scene>, word: &[u8], tag: &[u8], phones: &[&[u8]]) -> Input {
+pub fn input(
+    scene: &Rc<Scene>,
+    word: impl AsRef<[u8]>,
+    tag: impl AsRef<[u8]>,
+    phones: &[impl AsRef<[u8]>],
+) -> Input {
     Input {
         scene: scene.clone(),
-        word: word.to_vec(),
-        tag: tag.to_vec(),
-        cells: phones.iter().map(|phone| cell(phone)).collect(),
-        rest: vec![],
+        given: Add {
+            wanted: Wanted::new(word.as_ref(), tag.as_ref()),
+            phones: List::of(phones),
+        },
     }
 }
 
@@ -41,8 +38,7 @@ fn small_stores() -> Vec<Input> {
             let scene = Rc::new(Scene::new(&lexicon, store));
             for word in ["a", "A", "b", "c"] {
                 for tag in ["", "n", "v", "nil", "0"] {
-                    let phones: &[&[u8]] = &[b"zz"];
-                    inputs.push(input(&scene, word.as_bytes(), tag.as_bytes(), phones));
+                    inputs.push(input(&scene, word, tag, &["zz"]));
                 }
             }
         }
@@ -60,7 +56,7 @@ fn single_phones(phones: &Phones) -> Vec<Input> {
         // of the strings of two bytes, those of letters
         let two = |phone: &Vec<u8>| phone.len() == 2 && !phone.iter().all(u8::is_ascii_lowercase);
         for phone in phones.short().iter().filter(|phone| !two(phone)) {
-            inputs.push(input(&scene, b"a", b"n", &[phone]));
+            inputs.push(input(&scene, "a", "n", &[phone]));
         }
         // every length byte, over a known text, over zeros and over a high byte
         for len in 0..=255 {
@@ -73,10 +69,9 @@ fn single_phones(phones: &Phones) -> Vec<Input> {
                 let mut given = cell(text);
                 given[0] = len;
                 given[15] = last;
-                inputs.push(Input {
-                    cells: vec![given],
-                    ..input(&scene, b"a", b"n", &[])
-                });
+                let mut input = input(&scene, "a", "n", &[""]);
+                input.given.phones.cells[0] = given;
+                inputs.push(input);
             }
         }
     }
@@ -90,17 +85,12 @@ fn altered_bytes() -> Vec<Input> {
     for (i, store) in store_edges::altered_bytes().into_iter().enumerate() {
         let scene = Rc::new(Scene::new(&lexicon, store));
         let (word, tag) = [("Lead", "v"), ("b", ""), ("a", "n")][i % 3];
-        inputs.push(input(
-            &scene,
-            word.as_bytes(),
-            tag.as_bytes(),
-            &[b"k", b"ae"],
-        ));
+        inputs.push(input(&scene, word, tag, &["k", "ae"]));
     }
     for lexicon in lexicon_edges::altered_bytes() {
         let table = Lexicon::of_table(lexicon.sections.phones.clone());
         let scene = Rc::new(Scene::new(&table, store_edges::good()));
-        inputs.push(input(&scene, b"a", b"n", &[b"zz", b"k"]));
+        inputs.push(input(&scene, "a", "n", &["zz", "k"]));
     }
     inputs
 }
@@ -112,26 +102,26 @@ fn edges() -> Vec<Input> {
         let table = Lexicon::of_table(lexicon.sections.phones.clone());
         for store in [store_edges::good(), stores::new(1, 0), vec![1; 512]] {
             let scene = Rc::new(Scene::new(&table, store));
-            let lists: [&[&[u8]]; 5] = [&[], &[b"k"], &[b"p"], &[b""], &[b"ppppppppppppppp"]];
+            let lists: [&[&str]; 5] = [&[], &["k"], &["p"], &[""], &["ppppppppppppppp"]];
             for phones in lists {
-                inputs.push(input(&scene, b"lead", b"v", phones));
-                inputs.push(input(&scene, b"new", b"", phones));
+                inputs.push(input(&scene, "lead", "v", phones));
+                inputs.push(input(&scene, "new", "", phones));
             }
-            inputs.push(input(&scene, &[b'a'; 48], b"", &[b"q"]));
+            inputs.push(input(&scene, [b'a'; 48], "", &["q"]));
         }
     }
     let plain = Rc::new(Lexicon::of(&["", "q"], &[]));
     // the last entry again
     let scene = Rc::new(Scene::new(&plain, store_edges::good()));
-    inputs.push(input(&scene, b"LEAD", b"vb", &[b"l", b"iy"]));
+    inputs.push(input(&scene, "LEAD", "vb", &["l", "iy"]));
     for store in store_edges::limits() {
         let scene = Rc::new(Scene::new(&plain, store));
         for word in words::edges() {
-            inputs.push(input(&scene, &word, b"", &[b"k"]));
+            inputs.push(input(&scene, word, "", &["k"]));
         }
         for tag in words::tags() {
             for word in ["lead", "a", "A", "w0", "w126"] {
-                inputs.push(input(&scene, word.as_bytes(), &tag, &[b"k", b"q", b""]));
+                inputs.push(input(&scene, word, &tag, &["k", "q", ""]));
             }
         }
         inputs.extend(lists(&scene));
@@ -142,31 +132,30 @@ fn edges() -> Vec<Input> {
 /// Lists at 01's limits: 3 and 5 look at every cell, also past the 24th and the 96th.
 fn lists(scene: &Rc<Scene>) -> Vec<Input> {
     let mut inputs = vec![];
+    let with = |bytes: &[(usize, u8)]| {
+        let mut cell = cell(b"t");
+        bytes.iter().for_each(|(at, byte)| cell[*at] = *byte);
+        cell
+    };
+    let (high, long, past) = (with(&[(1, 200)]), with(&[(0, 16)]), with(&[(2, 200)]));
+    let both = with(&[(0, 16), (15, 128)]);
     for count in [0, 1, 23, 24, 25, 26, 96, 97] {
         for word in ["lead", "new"] {
-            let known = input(scene, word.as_bytes(), b"v", &vec![&b"t"[..]; count]);
+            let known = input(scene, word, "v", &vec!["t"; count]);
+            let mut add = |phones: List| {
+                let mut input = known.clone();
+                input.given.phones = phones;
+                inputs.push(input);
+            };
+            let list = &known.given.phones;
             for rest in [0, 1, 15] {
-                inputs.push(Input {
-                    rest: vec![255; rest],
-                    ..known.clone()
-                });
+                let rest = vec![255; rest];
+                let cells = list.cells.clone();
+                add(List { cells, rest });
             }
             for at in [0, 23, 24, 95, 96].into_iter().filter(|at| *at < count) {
-                let mut high = cell(b"t");
-                high[1] = 200;
-                let mut long = cell(b"t");
-                long[0] = 16;
-                let mut past = cell(b"t");
-                past[2] = 200;
-                let mut both = long;
-                both[15] = 128;
                 for other in [cell(b"zz"), cell(b""), cell(b"q"), high, long, past, both] {
-                    let mut cells = known.cells.clone();
-                    cells[at] = other;
-                    inputs.push(Input {
-                        cells,
-                        ..known.clone()
-                    });
+                    add(list.with(at, other));
                 }
             }
         }

@@ -1,14 +1,11 @@
 //! The book beside a list of calls: the original with its own entries, and the words of the sheet.
 
 use super::{Act, Sections};
-use crate::call::ask;
-use crate::cells::text;
-use crate::scene::{ascii, entry};
-use crate::spoken::{self, Wanted, Word};
-use crate::stores::{self, Entry};
-use original::lexicon::{self, probe};
+use crate::prelude::*;
+use crate::scene::entry;
+use crate::spoken::Word;
+use original::lexicon::probe;
 use std::mem::take;
-use std::rc::Rc;
 
 pub struct Book {
     sections: Rc<Sections>,
@@ -54,22 +51,14 @@ impl Book {
                 self.pending.push(wanted.clone());
                 self.wanted.push(wanted.clone());
             }
-            Act::AddEntry {
-                word, tag, cells, ..
-            } => {
-                let phones: Vec<&str> = cells.iter().map(|cell| ascii(text(cell))).collect();
-                let tag = (!tag.is_empty()).then_some(ascii(tag));
-                self.change(|lexicon| {
-                    lexicon
-                        .add_entry(ascii(word), tag, &phones)
-                        .map_err(|error| format!("the original refuses: {error}"))
-                })?;
+            Act::AddEntry(Add { wanted, phones }) => {
+                let phones: Vec<&str> = phones.texts().into_iter().map(ascii).collect();
+                let tag = (!wanted.tag.is_empty()).then_some(ascii(&wanted.tag));
+                self.change(|lexicon| lexicon.add_entry(ascii(&wanted.word), tag, &phones))?;
             }
-            Act::AddText { text, .. } => self.change(|lexicon| {
-                let told = lexicon.add_entries(ascii(text));
-                told.map(drop)
-                    .map_err(|error| format!("the original refuses: {error}"))
-            })?,
+            Act::AddText { text, .. } => {
+                self.change(|lexicon| lexicon.add_entries(ascii(text)).map(drop))?;
+            }
         }
         Ok(())
     }
@@ -77,11 +66,11 @@ impl Book {
     /// Changes the entries; the words before saw the old ones.
     fn change(
         &mut self,
-        change: impl FnOnce(&mut lexicon::Lexicon) -> Result<(), String>,
+        change: impl FnOnce(&mut lexicon::Lexicon) -> Result<(), LexiconError>,
     ) -> Result<(), String> {
         self.say()?;
         let entries = self.entries.as_mut().ok_or("entries without a table")?;
-        ask(|| change(entries)).map_err(|said| format!("the original panics: {said}"))?
+        ask(|| change(entries))?.map_err(|error| format!("the original refuses: {error}"))
     }
 
     /// Says the words that are pending, in one utterance.
@@ -102,40 +91,14 @@ impl Book {
     }
 
     /// Drops the words; tells them and their phone string.
-    pub fn close(&mut self, met: &mut Vec<&'static str>) -> Result<(Vec<Word>, String), String> {
+    pub fn close(&mut self, met: &mut Met) -> Result<(Vec<Word>, String), String> {
         self.say()?;
-        let words = take(&mut self.said);
-        let wanted = take(&mut self.wanted);
+        met.all(utterance(self));
+        self.wanted.clear();
+        self.behind_stop = false;
+        self.parts = 0;
         let strings = take(&mut self.strings);
-        let behind_stop = take(&mut self.behind_stop);
-        let parts = take(&mut self.parts);
-        let same = |a: &Wanted, b: &Wanted| a.word == b.word && a.tag == b.tag;
-        let pairs = || (wanted.iter().zip(&words)).enumerate();
-        let otherwise = pairs().any(|(i, (first, as_said))| {
-            let mut later = wanted.iter().zip(&words).skip(i + 1);
-            later.any(|(second, word)| same(first, second) && word != as_said)
-        });
-        met.push(match words.len() {
-            0 => "utterance without words",
-            1 => "utterance of one word",
-            2..=10 => "utterance of 2 to 10 words",
-            _ => "utterance of more words",
-        });
-        let rows = [
-            (
-                "utterance without phones",
-                !words.is_empty() && strings.is_empty(),
-            ),
-            ("utterance that saw one list of entries", parts == 1),
-            ("utterance that saw several", parts > 1),
-            ("word that is said otherwise the second time", otherwise),
-            (
-                "text that stops behind lines taken, then a word",
-                behind_stop,
-            ),
-        ];
-        met.extend(rows.iter().filter(|row| row.1).map(|row| row.0));
-        Ok((words, strings.join(" ")))
+        Ok((take(&mut self.said), strings.join(" ")))
     }
 
     /// Whether a store holds these entries, in this order.
@@ -150,4 +113,26 @@ impl Book {
             false => Err("the original's entries are not the store's".into()),
         }
     }
+}
+
+rows! { pub ROWS:
+    /// What the words of a sheet met.
+    utterance(book: &Book) {
+        let said: Vec<_> = book.wanted.iter().zip(&book.said).collect();
+        let otherwise = |i: usize| {
+            let mut later = said[i + 1..].iter();
+            later.any(|(wanted, word)| *wanted == said[i].0 && *word != said[i].1)
+        };
+        let words = said.len();
+    } [
+        "utterance without words" => words == 0,
+        "utterance without phones" => words > 0 && book.strings.is_empty(),
+        "utterance of one word" => words == 1,
+        "utterance of 2 to 10 words" => (2..=10).contains(&words),
+        "utterance of more words" => words > 10,
+        "utterance that saw one list of entries" => book.parts == 1,
+        "utterance that saw several" => book.parts > 1,
+        "word that is said otherwise the second time" => (0..words).any(otherwise),
+        "text that stops behind lines taken, then a word" => book.behind_stop,
+    ]
 }

@@ -1,7 +1,7 @@
 //! What a list of calls gives back, one call behind the other, as bytes that are compared.
 
-use crate::notation;
-use crate::ours::Answer;
+use super::run::State;
+use crate::prelude::*;
 use crate::sheets::Reading;
 use crate::spoken::Word;
 
@@ -12,6 +12,7 @@ const SPARE: u8 = b'p';
 const READING: u8 = b'r';
 const PHONES: u8 = b's';
 
+#[derive(Default)]
 pub struct Log {
     pub bytes: Vec<u8>,
     store: Vec<u8>,
@@ -20,36 +21,30 @@ pub struct Log {
 
 impl Log {
     /// A log that starts with a new store and a new sheet.
-    pub fn new(store: &[u8], sheet: &[u8]) -> Log {
-        let mut log = Log {
-            bytes: vec![],
-            store: vec![],
-            sheet: vec![],
-        };
-        log.state(store, sheet);
+    pub fn new(state: &State) -> Log {
+        let mut log = Log::default();
+        log.state(state);
         log
     }
 
-    /// A call: its answer, and the store and the sheet where it altered them.
-    pub fn call(&mut self, answer: Answer, store: &[u8], sheet: &[u8]) {
+    /// A call: its answer, the spare if it has one, and the store and the sheet where it altered them.
+    pub fn call(&mut self, answer: Answer, state: &mut State) {
+        if let Some(spare) = state.spare.take() {
+            self.put(SPARE, &spare);
+        }
         self.answer(ANSWER, answer, &[]);
-        self.state(store, sheet);
+        self.state(state);
     }
 
-    fn state(&mut self, store: &[u8], sheet: &[u8]) {
-        if store != self.store {
-            self.put(STORE, store);
-            self.store = store.to_vec();
+    fn state(&mut self, state: &State) {
+        if state.store != self.store {
+            self.put(STORE, &state.store);
+            self.store = state.store.clone();
         }
-        if sheet != self.sheet {
-            self.put(SHEET, sheet);
-            self.sheet = sheet.to_vec();
+        if state.sheet != self.sheet {
+            self.put(SHEET, &state.sheet);
+            self.sheet = state.sheet.clone();
         }
-    }
-
-    /// The spare behind an add of text.
-    pub fn spare(&mut self, spare: &[u8]) {
-        self.put(SPARE, spare);
     }
 
     /// What reading a sheet gave, if it could be read.

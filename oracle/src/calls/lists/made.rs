@@ -2,52 +2,29 @@
 
 use super::{Act, Input, Sections, Step};
 use crate::calls::{add_entries, add_entry};
-use crate::cells::cell;
-use crate::lexicon_shapes;
-use crate::lexicons::Lexicon;
-use crate::phones::Phones;
-use crate::random::Random;
-use crate::scene::Scene;
-use crate::shapes;
-use crate::sheet_shapes;
+use crate::prelude::*;
 use crate::sheets::LARGEST;
-use crate::spoken::Wanted;
-use crate::store_shapes;
-use crate::stores::{self, SLOT};
-use crate::trees::Trees;
-use crate::words;
-use std::rc::Rc;
 
 /// How many lists a set of sections serves.
 const LISTS: usize = 8;
 
+/// Sections, the same with one broken, and words to add and to say.
+struct Sources {
+    sections: Rc<Sections>,
+    broken: Rc<Sections>,
+    words: Vec<Vec<u8>>,
+}
+
+#[derive(Default)]
 pub struct Maker {
     phones: Phones,
-    sections: Option<Rc<Sections>>,
-    broken: Option<Rc<Sections>>,
-    /// Words to add and to say.
-    words: Vec<Vec<u8>>,
-    /// Lists that the sections still serve.
-    left: usize,
+    sources: Served<Sources>,
 }
 
 impl Maker {
-    pub fn new() -> Maker {
-        Maker {
-            phones: Phones::new(),
-            sections: None,
-            broken: None,
-            words: vec![],
-            left: 0,
-        }
-    }
-
     /// A random list.
     pub fn list(&mut self, random: &mut Random) -> Input {
-        if self.left == 0 {
-            self.begin(random);
-        }
-        self.left -= 1;
+        let sources = self.sources.next(|| begin(random, &self.phones));
         let large = random.once_in(400);
         let len = match large {
             true => LARGEST,
@@ -69,57 +46,72 @@ impl Maker {
             true => random.bytes(len),
             false => vec![random.byte() * random.below(2) as u8; len],
         };
-        let sections = self.sections.clone().expect("there are sections by now");
-        let pool = self.pool(random, &sections);
+        let pool = Pool::new(random, sources, &self.phones);
         let breaks = random.once_in(6);
         let mut input = Input {
-            broken: self.broken.clone().expect("there are sections by now"),
+            sections: sources.sections.clone(),
+            broken: sources.broken.clone(),
             store: bytes(random, SLOT * slots),
             sheet: bytes(random, len),
             steps: vec![],
-            sections,
         };
         for _ in 0..steps {
-            let act = self.act(random, &pool);
+            let act = pool.act(random);
             let broken = breaks && random.once_in(4);
             input.steps.push(Step { act, broken });
         }
         input
     }
+}
 
-    /// Sections, and words around them.
-    fn begin(&mut self, random: &mut Random) {
-        let shape = lexicon_shapes::few(random, &self.phones);
-        let lexicon = Rc::new(match random.once_in(6) {
-            true => lexicon_shapes::broken(random, &shape.lexicon),
-            false => shape.lexicon,
-        });
-        let trees = Rc::new(match random.once_in(3) {
-            true => shapes::random(random),
-            false => {
-                let shape = random.below(5);
-                shapes::to_record(random, shape)
-            }
-        });
-        let sections = Sections::new(&lexicon, &trees);
-        self.words = shape.words;
-        self.words.truncate(12);
-        for _ in 0..random.between(1, 4) {
-            self.words.push(words::accepted(random, &trees.alphabet));
+/// Sections, and words around them; and how many lists they serve.
+fn begin(random: &mut Random, phones: &Phones) -> (Sources, usize) {
+    let shape = lexicon_shapes::few(random, phones);
+    let lexicon = Rc::new(match random.once_in(6) {
+        true => lexicon_shapes::broken(random, &shape.lexicon),
+        false => shape.lexicon,
+    });
+    let trees = Rc::new(match random.once_in(3) {
+        true => tree_shapes::random(random),
+        false => {
+            let shape = random.below(5);
+            tree_shapes::to_record(random, shape)
         }
-        self.broken = Some(broken(random, &sections));
-        self.sections = Some(sections);
-        self.left = LISTS;
+    });
+    let sections = Sections::new(&lexicon, &trees);
+    let mut words = shape.words;
+    words.truncate(12);
+    for _ in 0..random.between(1, 4) {
+        words.push(words::accepted(random, &trees.alphabet));
     }
+    let sources = Sources {
+        broken: broken(random, &sections),
+        sections,
+        words,
+    };
+    (sources, LISTS)
+}
 
-    /// Words and tags for one list; half of the lists have few, so that words come again.
-    fn pool(&self, random: &mut Random, sections: &Sections) -> Pool {
+/// What the calls of one list are made of; half of the lists have few words and tags, so that words come again.
+struct Pool<'a> {
+    few: bool,
+    words: Vec<Vec<u8>>,
+    tags: Vec<Vec<u8>>,
+    all_words: &'a [Vec<u8>],
+    phones: &'a Phones,
+    /// The sections beside an empty store.
+    scene: Scene,
+}
+
+impl Pool<'_> {
+    fn new<'a>(random: &mut Random, sources: &'a Sources, phones: &'a Phones) -> Pool<'a> {
         let few = random.once_in(2);
+        let all_words = &sources.words[..];
         let words: Vec<Vec<u8>> = match few {
             true => (0..random.between(1, 3))
-                .map(|_| self.words[random.below(self.words.len())].clone())
+                .map(|_| all_words[random.below(all_words.len())].clone())
                 .collect(),
-            false => self.words.clone(),
+            false => all_words.to_vec(),
         };
         let tags = match few {
             true => vec![words::tag(random), vec![]],
@@ -127,64 +119,53 @@ impl Maker {
         };
         Pool {
             few,
-            tags,
-            texts: add_entries::AddEntries::of_words(words.clone()),
             words,
-            scene: Rc::new(Scene::new(&sections.table, stores::new(1, 0))),
+            tags,
+            all_words,
+            phones,
+            scene: Scene::new(&sources.sections.table, stores::new(1, 0)),
         }
     }
 
-    fn act(&self, random: &mut Random, pool: &Pool) -> Act {
-        let tag = pool.tags[random.below(pool.tags.len())].clone();
+    fn act(&self, random: &mut Random) -> Act {
+        let tag = self.tags[random.below(self.tags.len())].clone();
         match random.weighted(&[10, 4, 2, 1]) {
             0 => Act::SayWord(Wanted {
-                word: match pool.few && !random.once_in(8) {
-                    true => pool.words[random.below(pool.words.len())].clone(),
-                    false => words::near(random, &self.words),
+                word: match self.few && !random.once_in(8) {
+                    true => self.words[random.below(self.words.len())].clone(),
+                    false => words::near(random, self.all_words),
                 },
                 tag,
             }),
             1 => {
-                let scene = pool.scene.clone();
-                let add = store_shapes::add(random, &scene, &pool.words, &self.phones, false);
-                let mut input = add_entry::Input {
-                    scene,
-                    word: add.word,
-                    tag: if pool.few { tag } else { add.tag },
-                    cells: add.phones.iter().map(|phone| cell(phone)).collect(),
-                    rest: vec![],
-                };
-                if random.once_in(2) {
-                    add_entry::spoil(random, &mut input, &self.phones);
+                let mut add =
+                    store_shapes::add(random, &self.scene, &self.words, self.phones, false);
+                if self.few {
+                    add.wanted.tag = tag;
                 }
-                Act::AddEntry {
-                    word: input.word,
-                    tag: input.tag,
-                    cells: input.cells,
-                    rest: input.rest,
+                if random.once_in(2) {
+                    add_entry::spoil(random, &mut add, self.phones);
+                }
+                Act::AddEntry(add)
+            }
+            2 => {
+                let texts = add_entries::Texts {
+                    scene: &self.scene,
+                    words: &self.words,
+                    phones: self.phones,
+                };
+                Act::AddText {
+                    text: texts.text(random, 16),
+                    fill: random.byte(),
+                    spare: match random.once_in(20) {
+                        true => Some(SLOT * random.below(4) + random.below(2)),
+                        false => None,
+                    },
                 }
             }
-            2 => Act::AddText {
-                text: pool.texts.text(random, &pool.scene, 16),
-                fill: random.byte(),
-                spare: match random.once_in(20) {
-                    true => Some(SLOT * random.below(4) + random.below(2)),
-                    false => None,
-                },
-            },
             _ => Act::NewSheet,
         }
     }
-}
-
-/// What the calls of one list are made of.
-struct Pool {
-    few: bool,
-    words: Vec<Vec<u8>>,
-    tags: Vec<Vec<u8>>,
-    texts: add_entries::AddEntries,
-    /// The sections beside an empty store.
-    scene: Rc<Scene>,
 }
 
 /// Sections of which one at least breaks its form.

@@ -2,210 +2,245 @@
 
 use super::book::Book;
 use super::log::Log;
-use super::{Act, Input, Lists};
-use crate::call::Call;
+use super::{Act, Input, Lists, Step, CALLS};
 use crate::calls::{add_entries, add_entry, new_sheet, new_store, phone_string, say_word};
-use crate::lent::Room;
-use crate::lexicons::Lexicon;
-use crate::ours::Answer;
-use crate::scene::Scene;
-use crate::sheets::{self, Reading};
-use std::rc::Rc;
+use crate::prelude::*;
+use crate::sheets::Reading;
 
 /// More bytes than the phones of any sheet have, in a row.
 const PHONES: usize = 20_000;
 
-impl Lists {
-    /// What 01 and the original make of a list.
-    pub fn run_beside(
-        &self,
-        input: &Input,
-        met: &mut Vec<&'static str>,
-    ) -> Result<Vec<u8>, String> {
-        let mut store = new_store::NewStore.expected(&input.store).outcome?.output;
-        let mut sheet = new_sheet::NewSheet.expected(&input.sheet).outcome?.output;
-        let mut log = Log::new(&store, &sheet);
-        let mut book = Book::new(&input.sections);
-        let mut refused = false;
-        for step in &input.steps {
-            let lent = input.lent(step);
-            let (kind, expected) = match &step.act {
-                Act::NewSheet => {
-                    close(&mut book, &sheet, &mut log, met)?;
-                    ("new_sheet", new_sheet::NewSheet.expected(&sheet))
-                }
-                Act::AddEntry { .. } => {
-                    let call = entry_input(&step.act, &scene(&lent.table, &store));
-                    ("add_entry", self.add_entry.expected(&call))
-                }
-                Act::AddText { text, fill, spare } => {
-                    let call = add_entries::Input {
-                        scene: scene(&lent.table, &store),
-                        spare: input.spare(*fill, *spare),
-                        text: text.clone(),
-                    };
-                    ("add_entries", self.add_text.expected(&call))
-                }
-                Act::SayWord(wanted) => {
-                    let call = say_word::Input {
-                        scene: scene(&lent.lexicon, &store),
-                        trees: lent.trees.clone(),
-                        sheet: sheet.clone(),
-                        wanted: wanted.clone(),
-                    };
-                    ("say_word", self.say_word.expected(&call))
-                }
-            };
-            let stops = expected.met.contains(&"stop: earlier lines in the spare");
-            let outcome = expected.outcome?;
-            let accepted = outcome.answer.refusal == 0;
-            met.push("calls in all");
-            met.push(row(kind, expected.row));
-            if refused && accepted {
-                met.push("refused call, then an accepted one");
+/// What a list works on, as the call before has left it.
+pub struct State {
+    pub store: Vec<u8>,
+    pub sheet: Vec<u8>,
+    /// The spare, behind a call that wrote one.
+    pub spare: Option<Vec<u8>>,
+}
+
+impl State {
+    /// Takes what a call wrote.
+    fn take<C: Call>(&mut self, call: &C, input: &C::Input, outcome: &Outcome) {
+        let parts = call.lent(input);
+        let written = parts.iter().filter(|part| part.is_written());
+        for (part, bytes) in written.zip(&outcome.written) {
+            match part.name {
+                "the store" => self.store = bytes.clone(),
+                "the sheet" => self.sheet = bytes.clone(),
+                "the spare" => self.spare = Some(bytes.clone()),
+                other => unreachable!("no call of a list writes {other}"),
             }
-            refused = !accepted;
-            match &step.act {
-                Act::NewSheet | Act::SayWord(_) => sheet = outcome.output,
-                Act::AddEntry { .. } => store = outcome.output,
-                Act::AddText { .. } => {
-                    log.spare(&outcome.output[store.len()..]);
-                    store = outcome.output[..store.len()].to_vec();
-                }
-            }
-            book.stops |= stops;
-            if accepted {
-                book.take(&step.act)?;
-            }
-            log.call(outcome.answer, &store, &sheet);
         }
-        close(&mut book, &sheet, &mut log, met)?;
-        book.is_in(&store)?;
+    }
+}
+
+/// Who runs a list.
+pub trait Side {
+    /// What a call gives back.
+    fn outcome<C: Call>(&mut self, call: &C, input: &C::Input) -> Result<Outcome, String>;
+
+    /// The same of a call of the list, which the table counts.
+    fn counted<C: Call>(&mut self, call: &C, input: &C::Input) -> Result<Outcome, String> {
+        self.outcome(call, input)
+    }
+
+    /// A store beside a lexicon, as far as this side needs it.
+    fn scene(&self, lexicon: &Rc<Lexicon>, store: &[u8]) -> Rc<Scene>;
+
+    /// A call that was not refused.
+    fn accepted(&mut self, _act: &Act) -> Result<(), String> {
+        Ok(())
+    }
+
+    /// The end of a sheet's words, which are read out.
+    fn close(&mut self, sheet: &[u8], log: &mut Log) -> Result<(), String>;
+
+    /// The end of a list.
+    fn end(&mut self, _state: &State) -> Result<(), String> {
+        Ok(())
+    }
+}
+
+impl Lists {
+    /// What a side makes of a list, as a log.
+    pub fn run<S: Side>(&self, input: &Input, side: &mut S) -> Result<Vec<u8>, String> {
+        let store = new_store::Input {
+            store: input.store.clone(),
+        };
+        let sheet = new_sheet::Input {
+            sheet: input.sheet.clone(),
+        };
+        let store = side.outcome(&new_store::NewStore, &store)?;
+        let sheet = side.outcome(&self.new_sheet, &sheet)?;
+        let mut state = State {
+            store: store.written.concat(),
+            sheet: sheet.written.concat(),
+            spare: None,
+        };
+        let mut log = Log::new(&state);
+        for step in &input.steps {
+            if let Act::NewSheet = step.act {
+                side.close(&state.sheet, &mut log)?;
+            }
+            let answer = self.step(input, step, &mut state, side)?;
+            if answer.refusal == 0 {
+                side.accepted(&step.act)?;
+            }
+            log.call(answer, &mut state);
+        }
+        side.close(&state.sheet, &mut log)?;
+        side.end(&state)?;
         Ok(log.bytes)
     }
 
-    /// What the library makes of a list, and what it altered that it may not.
-    pub fn run_ours(&self, input: &Input) -> (Vec<u8>, Option<&'static str>) {
-        let made = new_store::NewStore.ours(&input.store, &input.store);
-        let new = new_sheet::NewSheet.ours(&input.sheet, &input.sheet);
-        let mut altered = made.altered.or(new.altered);
-        let (mut store, mut sheet) = (made.output, new.output);
-        let mut log = Log::new(&store, &sheet);
-        for step in &input.steps {
-            let lent = input.lent(step);
-            let outcome = match &step.act {
-                Act::NewSheet => {
-                    altered = altered.or(close_ours(&sheet, &mut log));
-                    new_sheet::NewSheet.ours(&sheet, &sheet)
-                }
-                Act::AddEntry { .. } => {
-                    let call = entry_input(&step.act, &sections_alone(&lent.table, &store));
-                    self.add_entry.ours(&call, &store)
-                }
-                Act::AddText { text, fill, spare } => {
-                    let spare = input.spare(*fill, *spare);
-                    let handed = [&store[..], &spare].concat();
-                    let call = add_entries::Input {
-                        scene: sections_alone(&lent.table, &store),
-                        spare,
-                        text: text.clone(),
-                    };
-                    self.add_text.ours(&call, &handed)
-                }
-                Act::SayWord(wanted) => {
-                    let call = say_word::Input {
-                        scene: sections_alone(&lent.lexicon, &store),
-                        trees: lent.trees.clone(),
-                        sheet: vec![],
-                        wanted: wanted.clone(),
-                    };
-                    self.say_word.ours(&call, &sheet)
-                }
-            };
-            altered = altered.or(outcome.altered);
-            match &step.act {
-                Act::NewSheet | Act::SayWord(_) => sheet = outcome.output,
-                Act::AddEntry { .. } => store = outcome.output,
-                Act::AddText { .. } => {
-                    log.spare(&outcome.output[store.len()..]);
-                    store = outcome.output[..store.len()].to_vec();
-                }
+    /// One call, on what the one before has left.
+    fn step<S: Side>(
+        &self,
+        input: &Input,
+        step: &Step,
+        state: &mut State,
+        side: &mut S,
+    ) -> Result<Answer, String> {
+        let lent = input.lent(step);
+        match &step.act {
+            Act::NewSheet => {
+                let sheet = state.sheet.clone();
+                made(&self.new_sheet, &new_sheet::Input { sheet }, state, side)
             }
-            log.call(outcome.answer, &store, &sheet);
+            Act::AddEntry(given) => {
+                let input = add_entry::Input {
+                    scene: side.scene(&lent.table, &state.store),
+                    given: given.clone(),
+                };
+                made(&self.add_entry, &input, state, side)
+            }
+            Act::AddText { text, fill, spare } => {
+                let input = add_entries::Input {
+                    scene: side.scene(&lent.table, &state.store),
+                    spare: vec![*fill; spare.unwrap_or(state.store.len())],
+                    text: text.clone(),
+                };
+                made(&self.add_text, &input, state, side)
+            }
+            Act::SayWord(wanted) => {
+                let input = say_word::Input {
+                    scene: side.scene(&lent.lexicon, &state.store),
+                    trees: lent.trees.clone(),
+                    sheet: state.sheet.clone(),
+                    wanted: wanted.clone(),
+                };
+                made(&self.say_word, &input, state, side)
+            }
         }
-        altered = altered.or(close_ours(&sheet, &mut log));
-        (log.bytes, altered)
     }
 }
 
-/// A store beside a lexicon, with the original.
-fn scene(lexicon: &Rc<Lexicon>, store: &[u8]) -> Rc<Scene> {
-    Rc::new(Scene::new(lexicon, store.to_vec()))
+fn made<C: Call, S: Side>(
+    call: &C,
+    input: &C::Input,
+    state: &mut State,
+    side: &mut S,
+) -> Result<Answer, String> {
+    let outcome = side.counted(call, input)?;
+    state.take(call, input, &outcome);
+    Ok(outcome.answer)
 }
 
-/// A store beside a lexicon, for the library alone.
-fn sections_alone(lexicon: &Rc<Lexicon>, store: &[u8]) -> Rc<Scene> {
-    Rc::new(Scene::alone(lexicon, store.to_vec()))
+/// 01 and the original.
+pub struct Beside<'a> {
+    pub book: Book,
+    pub met: &'a mut Met,
+    /// Whether the call before was refused.
+    pub refused: bool,
 }
 
-fn entry_input(act: &Act, scene: &Rc<Scene>) -> add_entry::Input {
-    let Act::AddEntry {
-        word,
-        tag,
-        cells,
-        rest,
-    } = act
-    else {
-        unreachable!("another call is no add_entry")
-    };
-    add_entry::Input {
-        scene: scene.clone(),
-        word: word.clone(),
-        tag: tag.clone(),
-        cells: cells.clone(),
-        rest: rest.clone(),
+impl Side for Beside<'_> {
+    fn outcome<C: Call>(&mut self, call: &C, input: &C::Input) -> Result<Outcome, String> {
+        call.expected(input).outcome
+    }
+
+    fn counted<C: Call>(&mut self, call: &C, input: &C::Input) -> Result<Outcome, String> {
+        let expected = call.expected(input);
+        let outcome = expected.outcome?;
+        let accepted = outcome.answer.refusal == 0;
+        self.met.row("calls in all");
+        self.met.row(row(C::NAME, &expected.row));
+        let recovered = self.refused && accepted;
+        self.met
+            .add("refused call, then an accepted one", recovered);
+        self.refused = !accepted;
+        self.book.stops |= expected.met.contains(&"stop: earlier lines in the spare");
+        Ok(outcome)
+    }
+
+    fn scene(&self, lexicon: &Rc<Lexicon>, store: &[u8]) -> Rc<Scene> {
+        Rc::new(Scene::new(lexicon, store.to_vec()))
+    }
+
+    fn accepted(&mut self, act: &Act) -> Result<(), String> {
+        self.book.take(act)
+    }
+
+    /// The book reads the words out, and the driver's sheet must read the same.
+    fn close(&mut self, sheet: &[u8], log: &mut Log) -> Result<(), String> {
+        let (words, phone_string) = self.book.close(self.met)?;
+        let reading = Reading::of(&words);
+        if sheets::reading(sheet).as_ref() != Some(&reading) {
+            return Err("the original says otherwise word by word than in a row".into());
+        }
+        let phones = phone_string.as_bytes();
+        self.met.row("phone_string: at an utterance's end");
+        log.reading(Some(&reading));
+        log.phone_string(Answer::accepted(0, phones.len()), phones);
+        Ok(())
+    }
+
+    /// The store must hold the book's entries.
+    fn end(&mut self, state: &State) -> Result<(), String> {
+        self.book.is_in(&state.store)
     }
 }
 
-/// The end of a sheet's words: the book reads them out, and the driver's sheet must read the same.
-fn close(
-    book: &mut Book,
-    sheet: &[u8],
-    log: &mut Log,
-    met: &mut Vec<&'static str>,
-) -> Result<(), String> {
-    let (words, phone_string) = book.close(met)?;
-    let reading = Reading::of(&words);
-    if sheets::reading(sheet).as_ref() != Some(&reading) {
-        return Err("the original says otherwise word by word than in a row".into());
-    }
-    let phones = phone_string.as_bytes();
-    met.push("phone_string: at an utterance's end");
-    log.reading(Some(&reading));
-    log.phone_string(Answer::accepted(0, phones.len()), phones);
-    Ok(())
+/// The library.
+#[derive(Default)]
+pub struct Library {
+    /// What it altered that it may not.
+    pub altered: Option<String>,
 }
 
-/// The same of the library's sheet. Tells what it altered that it may not.
-fn close_ours(sheet: &[u8], log: &mut Log) -> Option<&'static str> {
-    let call = phone_string::Input {
-        sheet: sheet.to_vec(),
-        room: Room::PLAIN,
-    };
-    let handed = call.room.bytes(PHONES);
-    let outcome = phone_string::PhoneString::new().ours(&call, &handed);
-    let len = (outcome.answer.value as usize).min(PHONES);
-    log.reading(sheets::reading(sheet).as_ref());
-    log.phone_string(outcome.answer, &outcome.output[..len]);
-    match outcome.output[len..] == handed[len..] {
-        true => outcome.altered,
-        false => Some("the output behind the phone string"),
+impl Side for Library {
+    fn outcome<C: Call>(&mut self, call: &C, input: &C::Input) -> Result<Outcome, String> {
+        let outcome = call.ours(input, &handed(&call.lent(input), PHONES));
+        if self.altered.is_none() {
+            self.altered = outcome.altered.clone();
+        }
+        Ok(outcome)
+    }
+
+    fn scene(&self, lexicon: &Rc<Lexicon>, store: &[u8]) -> Rc<Scene> {
+        Rc::new(Scene::alone(lexicon, store.to_vec()))
+    }
+
+    fn close(&mut self, sheet: &[u8], log: &mut Log) -> Result<(), String> {
+        let call = phone_string::Input {
+            sheet: sheet.to_vec(),
+            room: Room::PLAIN,
+        };
+        let outcome = self.outcome(&phone_string::PhoneString::default(), &call)?;
+        let written = outcome.written.concat();
+        let len = (outcome.answer.value as usize).min(PHONES);
+        log.reading(sheets::reading(sheet).as_ref());
+        log.phone_string(outcome.answer, &written[..len]);
+        if written[len..] != call.room.bytes(PHONES)[len..] {
+            self.altered = Some("the output behind the phone string".into());
+        }
+        Ok(())
     }
 }
 
 /// The row of the table for a call of a list.
-fn row(kind: &str, row: &str) -> &'static str {
-    let name = format!("{kind}: {row}");
-    let found = Lists::MET.iter().find(|row| **row == name);
+fn row(call: &str, answer: &str) -> &'static str {
+    let name = format!("{call}: {answer}");
+    let found = CALLS.iter().find(|row| **row == name);
     found.unwrap_or_else(|| panic!("the table has no row {name}"))
 }

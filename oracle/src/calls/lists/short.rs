@@ -1,32 +1,17 @@
 //! The short lists: every list of up to four calls over a few of them.
 
 use super::{Act, Input, Sections, Step};
-use crate::calls::predict::one_leaf;
-use crate::cells::cell;
 use crate::lexicon_edges::row;
-use crate::lexicons::Lexicon;
-use crate::sheets::{ITEM, LARGEST};
-use crate::spoken::Wanted;
-use crate::stores::SLOT;
-use crate::trees::Trees;
-use crate::words;
-use std::rc::Rc;
+use crate::prelude::*;
+use crate::sheets::LARGEST;
+use crate::tree_edges::one_leaf;
 
 fn say(word: &str, tag: &str) -> Act {
-    Act::SayWord(Wanted {
-        word: word.into(),
-        tag: tag.into(),
-    })
+    Act::SayWord(Wanted::new(word, tag))
 }
 
 fn add(word: &str, tag: &str, phones: &str) -> Act {
-    let phones = phones.split_whitespace();
-    Act::AddEntry {
-        word: word.into(),
-        tag: tag.into(),
-        cells: phones.map(|phone| cell(phone.as_bytes())).collect(),
-        rest: vec![],
-    }
+    Act::AddEntry(store_edges::add(word, tag, phones))
 }
 
 fn text(text: &str) -> Act {

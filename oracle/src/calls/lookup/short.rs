@@ -1,15 +1,9 @@
 //! The short inputs of lookup, and those that are always recorded.
 
 use super::Input;
-use crate::lent::{Room, Size};
-use crate::lexicon_edges::{self, row};
-use crate::lexicon_shapes;
-use crate::lexicons::{Lexicon, Row};
-use crate::scene::{Add, Scene};
-use crate::store_edges;
-use crate::stores;
-use crate::words;
-use std::rc::Rc;
+use crate::lexicon_edges::row;
+use crate::lexicons::Row;
+use crate::prelude::*;
 
 pub fn inputs() -> Vec<Input> {
     let mut inputs = edges();
@@ -30,15 +24,15 @@ pub fn fixed() -> Vec<Input> {
         .iter()
         .zip(["", "n", "p", "0", "v"].iter().cycle())
     {
-        inputs.push(input(&scene, word.as_bytes(), tag.as_bytes(), Size::Exact));
+        inputs.push(input(&scene, word, tag, Size::Exact));
     }
     let accepted = |word: &Vec<u8>| !words::is_refused(word);
     for word in words::edges().into_iter().filter(accepted) {
-        inputs.push(input(&scene, &word, b"", Size::Exact));
+        inputs.push(input(&scene, word, "", Size::Exact));
     }
     for tag in words::tags().into_iter().filter(accepted) {
-        inputs.push(input(&scene, b"Lead", &tag, Size::Exact));
-        inputs.push(input(&scene, b"b", &tag, Size::Exact));
+        inputs.push(input(&scene, "Lead", &tag, Size::Exact));
+        inputs.push(input(&scene, "b", &tag, Size::Exact));
     }
     for input in &mut inputs {
         input.room.step = 0;
@@ -46,17 +40,23 @@ pub fn fixed() -> Vec<Input> {
     inputs
 }
 
-fn input(scene: &Rc<Scene>, word: &[u8], tag: &[u8], size: Size) -> Input {
+fn input(scene: &Rc<Scene>, word: impl AsRef<[u8]>, tag: impl AsRef<[u8]>, size: Size) -> Input {
     Input {
         scene: scene.clone(),
-        word: word.to_vec(),
-        tag: tag.to_vec(),
-        room: Room {
-            size,
-            fill: 0x30,
-            step: 7,
-        },
+        wanted: Wanted::new(word.as_ref(), tag.as_ref()),
+        room: Room::of(size),
     }
+}
+
+/// Each of these words with each of these tags.
+fn each<'a>(
+    scene: &'a Rc<Scene>,
+    words: &'a [&str],
+    tags: &'a [&str],
+    size: Size,
+) -> impl Iterator<Item = Input> + 'a {
+    let with_tags = move |word| tags.iter().map(move |tag| input(scene, word, tag, size));
+    words.iter().flat_map(with_tags)
 }
 
 /// Each of the addenda with every tag of one byte and some others: without other entries, beside compiled
@@ -86,16 +86,16 @@ fn addenda_with_all_tags() -> Vec<Input> {
     for scene in &scenes {
         for word in &words {
             for tag in &tags {
-                inputs.push(input(scene, word.as_bytes(), tag, Size::Exact));
+                inputs.push(input(scene, word, tag, Size::Exact));
             }
             for other in [word.to_uppercase(), format!("{word} "), word[1..].into()] {
-                inputs.push(input(scene, other.as_bytes(), b"n", Size::More(1)));
-                inputs.push(input(scene, other.as_bytes(), b"", Size::More(2)));
+                inputs.push(input(scene, &other, "n", Size::More(1)));
+                inputs.push(input(scene, &other, "", Size::More(2)));
             }
         }
         for byte in 0..128 {
             for tag in ["", "n", "p", "v", "0", "nil"] {
-                inputs.push(input(scene, &[byte], tag.as_bytes(), Size::More(3)));
+                inputs.push(input(scene, [byte], tag, Size::More(3)));
             }
         }
     }
@@ -107,22 +107,11 @@ fn small_lexicons() -> Vec<Input> {
     let mut inputs = vec![];
     for lexicon in lexicon_edges::small(4) {
         let scene = Rc::new(Scene::new(&lexicon, stores::new(1, 0)));
-        let more = lexicon.count() < 4;
-        let words: &[&str] = if more {
-            &["a", "b", "", "ab", "A"]
-        } else {
-            &["a", "b"]
+        let (words, tags): (&[&str], &[&str]) = match lexicon.count() {
+            0..4 => (&["a", "b", "", "ab", "A"], &["", "n", "q", "nil"]),
+            _ => (&["a", "b"], &["", "n", "q"]),
         };
-        let tags: &[&str] = if more {
-            &["", "n", "q", "nil"]
-        } else {
-            &["", "n", "q"]
-        };
-        for word in words {
-            for tag in tags {
-                inputs.push(input(&scene, word.as_bytes(), tag.as_bytes(), Size::Exact));
-            }
-        }
+        inputs.extend(each(&scene, words, tags, Size::Exact));
     }
     inputs
 }
@@ -140,7 +129,7 @@ fn large_lexicons() -> Vec<Input> {
                 (&word[..4], "n"),
                 (&word[1..], "n"),
             ] {
-                inputs.push(input(&scene, word.as_bytes(), tag.as_bytes(), Size::Exact));
+                inputs.push(input(&scene, word, tag, Size::Exact));
             }
         }
     }
@@ -154,11 +143,8 @@ fn small_stores() -> Vec<Input> {
     let mut inputs = vec![];
     for store in store_edges::small(3) {
         let scene = Rc::new(Scene::new(&lexicon, store));
-        for word in ["a", "A", "b"] {
-            for tag in ["", "n", "v", "q", "0", "nil"] {
-                inputs.push(input(&scene, word.as_bytes(), tag.as_bytes(), Size::Exact));
-            }
-        }
+        let tags = ["", "n", "v", "q", "0", "nil"];
+        inputs.extend(each(&scene, &["a", "A", "b"], &tags, Size::Exact));
     }
     inputs
 }
@@ -170,13 +156,13 @@ fn altered_bytes() -> Vec<Input> {
     for (i, store) in store_edges::altered_bytes().into_iter().enumerate() {
         let scene = Rc::new(Scene::new(&lexicon, store));
         let word = ["lead", "a"][i % 2];
-        inputs.push(input(&scene, word.as_bytes(), b"", Size::Exact));
+        inputs.push(input(&scene, word, "", Size::Exact));
     }
     let store = store_edges::good();
     for lexicon in lexicon_edges::altered_bytes() {
         let scene = Rc::new(Scene::new(&lexicon, store.clone()));
         for (word, tag) in [("a", "v"), ("b", "q"), ("ab", ""), ("c", "n"), ("lead", "")] {
-            inputs.push(input(&scene, word.as_bytes(), tag.as_bytes(), Size::Exact));
+            inputs.push(input(&scene, word, tag, Size::Exact));
         }
     }
     inputs
@@ -188,35 +174,32 @@ fn edges() -> Vec<Input> {
     let mut inputs = vec![];
     for lexicon in lexicon_edges::limits() {
         let scene = Rc::new(Scene::new(&lexicon, stores::new(1, 0)));
-        for word in ["a", "b", "ab", "", "in"] {
-            for tag in ["", "n", "q"] {
-                for size in sizes {
-                    inputs.push(input(&scene, word.as_bytes(), tag.as_bytes(), size));
-                }
-            }
+        let words = ["a", "b", "ab", "", "in"];
+        for size in sizes {
+            inputs.extend(each(&scene, &words, &["", "n", "q"], size));
         }
         for len in [46, 47, 48, 255] {
-            inputs.push(input(&scene, &vec![b'a'; len], b"n", Size::Exact));
+            inputs.push(input(&scene, vec![b'a'; len], "n", Size::Exact));
         }
         for byte in [127, 128] {
-            inputs.push(input(&scene, &[byte], b"n", Size::Exact));
+            inputs.push(input(&scene, [byte], "n", Size::Exact));
         }
-        inputs.push(input(&scene, b"a", b"n", Size::Short(usize::MAX)));
+        inputs.push(input(&scene, "a", "n", Size::Short(usize::MAX)));
         // a lower refusal goes before a higher one
         let unsound = scene.with_store(vec![1; 512]);
-        inputs.push(input(&unsound, b"a", b"", Size::Exact));
-        inputs.push(input(&unsound, &[b'a'; 48], b"", Size::Exact));
+        inputs.push(input(&unsound, "a", "", Size::Exact));
+        inputs.push(input(&unsound, [b'a'; 48], "", Size::Exact));
     }
     let lexicon = Rc::new(Lexicon::new(lexicon_edges::good()));
     for store in store_edges::limits() {
         let scene = Rc::new(Scene::new(&lexicon, store));
         for word in words::edges() {
-            inputs.push(input(&scene, &word, b"", Size::Exact));
+            inputs.push(input(&scene, word, "", Size::Exact));
         }
         for tag in words::tags() {
-            inputs.push(input(&scene, b"a", &tag, Size::More(1)));
-            inputs.push(input(&scene, b"lead", &tag, Size::Exact));
-            inputs.push(input(&scene, b"Lead", &tag, Size::Short(1)));
+            inputs.push(input(&scene, "a", &tag, Size::More(1)));
+            inputs.push(input(&scene, "lead", &tag, Size::Exact));
+            inputs.push(input(&scene, "Lead", &tag, Size::Short(1)));
         }
     }
     inputs

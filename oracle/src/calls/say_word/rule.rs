@@ -1,15 +1,12 @@
 //! What 01 says of a word: its refusal, or where its phones come from.
 
-use super::{Input, SayWord};
-use crate::call::{ask, Call};
+use super::Input;
 use crate::calls::lookup::{self, Source};
 use crate::calls::predict;
-use crate::scene::ascii;
-use crate::sheet_edges;
-use crate::sheets::{self, Placed, ITEM};
+use crate::lexicons::Compiled;
+use crate::prelude::*;
+use crate::sheets::Placed;
 use crate::spoken::Word;
-use crate::words;
-use original::{lexicon, phoneset};
 
 /// Where the phones of a word come from, and the phones with their digits.
 pub struct Origin {
@@ -34,40 +31,24 @@ fn split(phone: &[u8]) -> (&[u8], Option<u8>) {
 }
 
 /// What 01 says before the items are counted. Tells what was met on the way.
-pub fn origin(input: &Input, met: &mut Vec<&'static str>) -> Result<Origin, u32> {
-    let Input { scene, trees, .. } = input;
-    let (word, tag) = (&input.wanted.word, &input.wanted.tag);
-    let found = lookup::rule(scene, word, tag, &mut vec![]);
-    if !scene.lexicon.has_form() || trees.names.is_none() {
-        met.push(match found {
-            Err(1) => "1: lexicon",
-            Ok(Some(_)) => "1: letter trees alone, for a word that lookup has",
-            _ => "1: letter trees alone, otherwise",
-        });
-        return Err(1);
-    }
-    let sheet = sheets::read(&input.sheet);
-    if scene.entries.is_err() || sheet.is_err() {
-        met.push(match (&scene.entries, &sheet) {
-            (Err(_), Ok(_)) => "2: the store",
-            (Ok(_), _) => "2: the sheet",
-            _ => "2: both",
-        });
-        met.extend(scene.entries.as_ref().err());
-        met.extend(sheet.err());
-        return Err(2);
-    }
-    if words::is_refused(word) || words::is_refused(tag) {
-        met.push(match words::is_refused(word) {
-            true => "3: the word",
-            false => "3: the tag",
-        });
-        return Err(3);
-    }
-    if let Err(refusal) = found {
-        met.push("6: compiled entry");
-        return Err(refusal);
-    }
+pub fn origin(input: &Input, met: &mut Met) -> Result<Origin, u32> {
+    let Input {
+        scene,
+        trees,
+        wanted,
+        ..
+    } = input;
+    let found = lookup::rule(scene, wanted, &mut Met::default());
+    let formless = !scene.lexicon.has_form() || trees.names.is_none();
+    met.refuse(1, formless, || by_1(&found))?;
+    let sheet = sheets::read(&input.sheet).err();
+    let store = scene.entries.as_ref().err().copied();
+    let unsound = by_2(store.is_some(), sheet.is_some());
+    let whys = || store.into_iter().chain(sheet).chain(unsound);
+    met.refuse(2, store.is_some() || sheet.is_some(), whys)?;
+    let word_too = words::is_refused(&wanted.word);
+    met.refuse(3, wanted.is_refused(), || by_3(word_too))?;
+    met.refuse(6, found.is_err(), || ["6: compiled entry"])?;
     if let Ok(Some((source, phones))) = found {
         let row = match source {
             Source::Runtime => "runtime",
@@ -76,25 +57,10 @@ pub fn origin(input: &Input, met: &mut Vec<&'static str>) -> Result<Origin, u32>
         };
         return Ok(Origin { row, phones });
     }
-    let refusal = predict::refusal(trees, word, &mut vec![]);
-    if refusal != 0 {
-        met.push("6: letter tree");
-        return Err(refusal);
-    }
-    let other = |entry: &[u8]| entry != word && entry.eq_ignore_ascii_case(word);
-    let mut compiled = (0..scene.lexicon.count().min(100))
-        .filter_map(|i| scene.lexicon.entry(i).ok())
-        .map(|entry| entry.word);
-    let rows = [
-        ("letters: '#' in the word", word.contains(&b'#')),
-        ("letters: damage that is not walked", trees.has_damage),
-        (
-            "letters: lookup has the word in another case",
-            compiled.any(other),
-        ),
-    ];
-    met.extend(rows.iter().filter(|row| row.1).map(|row| row.0));
-    let phones = ask(|| trees.original().predict(ascii(word)));
+    let walk = predict::refusal(trees, &wanted.word, &mut Met::default());
+    met.refuse(6, walk.is_err(), || ["6: letter tree"])?;
+    met.all(by_letters(input));
+    let phones = ask(|| trees.original().predict(ascii(&wanted.word)));
     let phones = phones.expect("the original predicts on trees that are whole");
     Ok(Origin {
         row: "letters",
@@ -102,125 +68,117 @@ pub fn origin(input: &Input, met: &mut Vec<&'static str>) -> Result<Origin, u32>
     })
 }
 
-/// What a word met that is refused by 7 or 9.
-pub fn refused(input: &Input, word: &Word, unused: usize) -> Vec<&'static str> {
-    let phones = word.phones().count();
-    let (long, need) = (phones > lookup::LONGEST, word.items());
-    let few = need > unused;
-    let more = input.sheet.len() % ITEM;
-    let rows = [
-        ("7: 97 phones", phones == lookup::LONGEST + 1),
-        ("7 before 9", long && few),
-        ("9: no unused item", !long && unused == 0),
-        ("9: one item too few", !long && need == unused + 1),
-        (
-            "9: 63 bytes more are no item",
-            !long && need == unused + 1 && more == ITEM - 1,
-        ),
-        ("9: word without phones", !long && phones == 0),
-    ];
-    let met = rows.iter().filter(|row| row.1);
-    met.map(|row| row.0).collect()
-}
+rows! { pub ROWS:
+    /// Which sections are refused by 1, by what lookup says without the letter trees.
+    by_1(found: &Result<lookup::Found, u32>) {
+        let lexicon = matches!(found, Err(1));
+        let has = matches!(found, Ok(Some(_)));
+    } [
+        "1: lexicon" => lexicon,
+        "1: letter trees alone, for a word that lookup has" => has,
+        "1: letter trees alone, otherwise" => !lexicon && !has,
+    ]
 
-/// What an accepted word has.
-pub fn features(
-    input: &Input,
-    origin: &Origin,
-    word: &Word,
-    before: &[Placed],
-) -> Vec<&'static str> {
-    let (text, tag) = (&input.wanted.word, &input.wanted.tag);
-    let bare = origin.bare();
-    let is_vowel = |phone: &[u8]| phoneset::is_vowel(ascii(phone));
-    let digits: Vec<Option<u8>> = origin.phones.iter().map(|phone| split(phone).1).collect();
-    let with_digit = || (bare.iter().zip(&digits)).filter(|(_, digit)| digit.is_some());
-    // the digits of each syllable
-    let mut rest = &digits[..];
-    let mut parts: Vec<Vec<u8>> = vec![];
-    for syllable in &word.syllables {
-        let (own, behind) = rest.split_at(syllable.phones.len());
-        parts.push(own.iter().flatten().copied().collect());
-        rest = behind;
-    }
-    let pairs = |pair: [u8; 2]| (parts.iter()).any(|part| part.windows(2).any(|two| two == pair));
-    let whole: Vec<&str> = origin.phones.iter().map(|phone| ascii(phone)).collect();
-    let cuts = |phones: &[&str]| ask(|| lexicon::syllabify(phones)).ok();
-    let names: Vec<&str> = bare.iter().map(|phone| ascii(phone)).collect();
-    let used: usize = before.iter().map(|placed| placed.items.len()).sum();
-    let silent = |placed: &Placed| placed.word.syllables.is_empty();
-    let all_silent = before.iter().all(silent);
-    let from = sheets::unused(&input.sheet);
-    let over = &input.sheet[from..from + ITEM * word.items()];
-    let stress = |stress: u8| word.syllables.iter().any(|s| s.stress == stress);
-    let lacks_vowel = |phones: &[Vec<u8>]| !phones.iter().any(|phone| is_vowel(phone));
-    let letters = origin.row == "letters";
-    let rows = [
-        ("no phones", bare.is_empty()),
-        ("one syllable", word.syllables.len() == 1),
-        ("2 syllables", word.syllables.len() == 2),
-        ("3 syllables and more", word.syllables.len() > 2),
-        ("94 phones by letters", letters && bare.len() == 94),
-        ("96 phones", bare.len() == lookup::LONGEST),
-        ("syllable of stress 0", stress(b'0')),
-        ("syllable of stress 1", stress(b'1')),
-        ("syllable without a digit", parts.iter().any(Vec::is_empty)),
-        ("0 behind 1 in one syllable", pairs(*b"10")),
-        ("1 behind 0 in one syllable", pairs(*b"01")),
-        (
-            "1, then a syllable without a digit",
-            (parts.windows(2)).any(|two| two[0].ends_with(b"1") && two[1].is_empty()),
-        ),
-        (
-            "digit on a consonant",
-            with_digit().any(|(phone, _)| !is_vowel(phone) && *phone != b"pau"),
-        ),
-        (
-            "digit on pau",
-            with_digit().any(|(phone, _)| *phone == b"pau"),
-        ),
-        (
-            "two digits, one comes off",
-            with_digit().any(|(phone, _)| split(phone).1.is_some()),
-        ),
-        (
-            "digit 2 stays",
-            bare.iter().any(|phone| phone.ends_with(b"2")),
-        ),
-        ("cut that a digit would hide", cuts(&whole) != cuts(&names)),
-        (
-            "pau among others",
-            bare.len() > 1 && bare.contains(&&b"pau"[..]),
-        ),
-        (
-            "syllable without a vowel",
-            word.syllables.iter().any(|s| lacks_vowel(&s.phones)),
-        ),
-        ("phone of 0 bytes", bare.contains(&&b""[..])),
-        ("phone of 15 bytes", bare.iter().any(|p| p.len() == 15)),
-        ("tag empty", tag.is_empty()),
-        ("tag 'nil'", tag == b"nil"),
-        ("tag of more bytes", tag.len() > 1 && tag != b"nil"),
-        ("empty word", text.is_empty()),
-        ("word of 47 bytes", text.len() == words::LONGEST),
-        ("capital letter", text.to_ascii_lowercase() != *text),
-        (
-            "first phones behind words without",
-            !before.is_empty() && all_silent && !bare.is_empty(),
-        ),
-        (
-            "no phones behind words with",
-            !all_silent && bare.is_empty(),
-        ),
-        (
-            "fills the sheet",
-            used + word.items() == sheets::room(&input.sheet),
-        ),
-        ("item 1,023", used + word.items() == 1_023),
-        ("written over anything", over.iter().any(|b| *b != 0)),
-    ];
-    let mut met = sheet_edges::features(&input.sheet, before);
-    met.retain(|row| SayWord::MET.contains(row));
-    met.extend(rows.iter().filter(|row| row.1).map(|row| row.0));
-    met
+    /// What is refused by 2.
+    by_2(store: bool, sheet: bool) [
+        "2: the store" => store && !sheet,
+        "2: the sheet" => !store && sheet,
+        "2: both" => store && sheet,
+    ]
+
+    /// What is refused by 3.
+    by_3(word: bool) [
+        "3: the word" => word,
+        "3: the tag" => !word,
+    ]
+
+    /// What a word has that is said by its letters.
+    by_letters(input: &Input) {
+        let Input { scene, trees, wanted, .. } = input;
+        let word = &wanted.word;
+        let other = |entry: Compiled| entry.word != word && entry.word.eq_ignore_ascii_case(word);
+        let mut compiled = (0..scene.lexicon.count().min(100)).map(|i| scene.lexicon.entry(i));
+    } [
+        "letters: '#' in the word" => word.contains(&b'#'),
+        "letters: damage that is not walked" => trees.has_damage,
+        "letters: lookup has the word in another case" => compiled.any(|e| e.is_ok_and(other)),
+    ]
+
+    /// What a word met that is refused by 7 or 9.
+    by_7_or_9(input: &Input, word: &Word, unused: usize) {
+        let phones = word.phones().count();
+        let (long, need) = (phones > lookup::LONGEST, word.items());
+        let one_too_few = !long && need == unused + 1;
+    } [
+        "7: 97 phones" => phones == lookup::LONGEST + 1,
+        "7 before 9" => long && need > unused,
+        "9: no unused item" => !long && unused == 0,
+        "9: one item too few" => one_too_few,
+        "9: 63 bytes more are no item" => one_too_few && input.sheet.len() % ITEM == ITEM - 1,
+        "9: word without phones" => !long && phones == 0,
+    ]
+
+    /// What the phones and the syllables of an accepted word have.
+    spoken(origin: &Origin, word: &Word) {
+        let bare = origin.bare();
+        let syllables = &word.syllables;
+        let is_vowel = |phone: &Vec<u8>| phoneset::is_vowel(ascii(phone));
+        let whole: Vec<&str> = origin.phones.iter().map(|phone| ascii(phone)).collect();
+        let names: Vec<&str> = bare.iter().map(|phone| ascii(phone)).collect();
+        let cuts = |phones: &[&str]| ask(|| lexicon::syllabify(phones)).ok();
+    } [
+        "no phones" => bare.is_empty(),
+        "one syllable" => syllables.len() == 1,
+        "2 syllables" => syllables.len() == 2,
+        "3 syllables and more" => syllables.len() > 2,
+        "94 phones by letters" => origin.row == "letters" && bare.len() == 94,
+        "96 phones" => bare.len() == lookup::LONGEST,
+        "syllable of stress 0" => syllables.iter().any(|s| s.stress == b'0'),
+        "syllable of stress 1" => syllables.iter().any(|s| s.stress == b'1'),
+        "cut that a digit would hide" => cuts(&whole) != cuts(&names),
+        "pau among others" => bare.len() > 1 && bare.contains(&&b"pau"[..]),
+        "syllable without a vowel" => syllables.iter().any(|s| !s.phones.iter().any(is_vowel)),
+    ]
+
+    /// What the digits of an accepted word have.
+    digits(origin: &Origin, word: &Word) {
+        let split: Vec<(&[u8], Option<u8>)> = origin.phones.iter().map(|p| split(p)).collect();
+        // the digits of each syllable
+        let mut rest = &split[..];
+        let mut parts: Vec<Vec<u8>> = vec![];
+        for syllable in &word.syllables {
+            let (own, behind) = rest.split_at(syllable.phones.len());
+            parts.push(own.iter().filter_map(|(_, digit)| *digit).collect());
+            rest = behind;
+        }
+        let pairs = |pair: &[u8]| parts.iter().any(|part| part.windows(2).any(|two| two == pair));
+        let any_with = |is_met: &dyn Fn(&[u8]) -> bool| {
+            split.iter().any(|(bare, digit)| digit.is_some() && is_met(bare))
+        };
+        let is_consonant = |bare: &[u8]| !phoneset::is_vowel(ascii(bare)) && bare != b"pau";
+        let behind_1 = |two: &[Vec<u8>]| two[0].ends_with(b"1") && two[1].is_empty();
+    } [
+        "syllable without a digit" => parts.iter().any(Vec::is_empty),
+        "0 behind 1 in one syllable" => pairs(b"10"),
+        "1 behind 0 in one syllable" => pairs(b"01"),
+        "1, then a syllable without a digit" => parts.windows(2).any(behind_1),
+        "digit on a consonant" => any_with(&is_consonant),
+        "digit on pau" => any_with(&|bare| bare == b"pau"),
+        "two digits, one comes off" => any_with(&|bare| self::split(bare).1.is_some()),
+        "digit 2 stays" => split.iter().any(|(bare, _)| bare.ends_with(b"2")),
+    ]
+
+    /// What an accepted word met on its sheet.
+    added(input: &Input, word: &Word, before: &[Placed]) {
+        let used = sheets::used(before) + word.items();
+        let silent = before.iter().all(|placed| placed.word.syllables.is_empty());
+        let has_phones = !word.syllables.is_empty();
+        let over = &input.sheet[sheets::unused(&input.sheet)..][..ITEM * word.items()];
+    } [
+        "first phones behind words without" => !before.is_empty() && silent && has_phones,
+        "no phones behind words with" => !silent && !has_phones,
+        "fills the sheet" => used == sheets::room(&input.sheet),
+        "item 1,023" => used == 1_023,
+        "written over anything" => !zeros(over),
+    ]
 }

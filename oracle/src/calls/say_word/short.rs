@@ -1,19 +1,11 @@
 //! The short inputs of say_word.
 
 use super::Input;
-use crate::calls::predict::{self, one_leaf};
-use crate::lexicon_edges::{self, row};
-use crate::lexicon_shapes;
-use crate::lexicons::{Lexicon, Row};
-use crate::scene::Scene;
-use crate::sheet_edges::{self, in_order};
-use crate::sheets::ITEM;
-use crate::spoken::Wanted;
-use crate::store_edges;
-use crate::stores;
-use crate::trees::Trees;
-use crate::words;
-use std::rc::Rc;
+use crate::lexicon_edges::row;
+use crate::lexicons::Row;
+use crate::prelude::*;
+use crate::sheet_edges::in_order;
+use crate::tree_edges::one_leaf;
 
 pub fn inputs() -> Vec<Input> {
     let mut inputs = sheets();
@@ -25,15 +17,18 @@ pub fn inputs() -> Vec<Input> {
     inputs
 }
 
-fn input(scene: &Rc<Scene>, trees: &Rc<Trees>, sheet: Vec<u8>, word: &[u8], tag: &[u8]) -> Input {
+fn input(
+    scene: &Rc<Scene>,
+    trees: &Rc<Trees>,
+    sheet: &[u8],
+    word: impl AsRef<[u8]>,
+    tag: impl AsRef<[u8]>,
+) -> Input {
     Input {
         scene: scene.clone(),
         trees: trees.clone(),
-        sheet,
-        wanted: Wanted {
-            word: word.to_vec(),
-            tag: tag.to_vec(),
-        },
+        sheet: sheet.to_vec(),
+        wanted: Wanted::new(word.as_ref(), tag.as_ref()),
     }
 }
 
@@ -58,14 +53,12 @@ fn sheets() -> Vec<Input> {
         .chain(sheet_edges::small());
     for sheet in sheets {
         for (word, tag) in [(",", ""), ("a", "v"), ("Lead", "v"), ("xx", ""), ("ab", "")] {
-            let (word, tag) = (word.as_bytes(), tag.as_bytes());
-            inputs.push(input(&scene, &trees, sheet.clone(), word, tag));
+            inputs.push(input(&scene, &trees, &sheet, word, tag));
         }
     }
     let altered = sheet_edges::altered_bytes().into_iter();
     for (i, sheet) in altered.chain(sheet_edges::flipped()).enumerate() {
-        let word = [&b","[..], b"b"][i % 2];
-        inputs.push(input(&scene, &trees, sheet, word, b""));
+        inputs.push(input(&scene, &trees, &sheet, [",", "b"][i % 2], ""));
     }
     inputs
 }
@@ -103,17 +96,11 @@ fn short_lists() -> Vec<Input> {
     ];
     let mut inputs = vec![];
     for (i, row) in rows.iter().enumerate() {
-        inputs.push(input(
-            &scene,
-            &trees,
-            sheets[i % 2].clone(),
-            &row.word,
-            b"v",
-        ));
+        inputs.push(input(&scene, &trees, &sheets[i % 2], &row.word, "v"));
     }
     for add in &adds {
         for sheet in &sheets {
-            inputs.push(input(&scene, &trees, sheet.clone(), &add.word, b"nil"));
+            inputs.push(input(&scene, &trees, sheet, &add.wanted.word, "nil"));
         }
     }
     inputs
@@ -150,7 +137,7 @@ fn exact_lengths() -> Vec<Input> {
             for unused in (0..=need + 1).filter(|n| n + 3 > need || *n < 2) {
                 for more in [0, 1, ITEM - 1] {
                     let sheet = sheet_edges::sheet(&in_order(&before), ITEM * unused + more, 0x2e);
-                    inputs.push(input(&scene, &trees, sheet, word.as_bytes(), b""));
+                    inputs.push(input(&scene, &trees, &sheet, word, ""));
                 }
             }
         }
@@ -158,15 +145,15 @@ fn exact_lengths() -> Vec<Input> {
         for unused in [0, need - 1, need, need + 1] {
             let before = vec![sheet_edges::word("w", &[]); 1_023 - unused];
             let sheet = sheet_edges::sheet(&in_order(&before), ITEM * unused, 0);
-            let shorter = sheet[..sheet.len() - 1].to_vec();
-            inputs.push(input(&scene, &trees, sheet, word.as_bytes(), b"n"));
-            inputs.push(input(&scene, &trees, shorter, word.as_bytes(), b"n"));
+            for sheet in [&sheet[..], &sheet[..sheet.len() - 1]] {
+                inputs.push(input(&scene, &trees, sheet, word, "n"));
+            }
         }
     }
     // 94 phones by letters
     for (word, unused) in [(47, 142), (47, 143), (46, 139)] {
         let (sheet, word) = (new_sheet(ITEM * unused), vec![b'a'; word]);
-        inputs.push(input(&scene, &trees, sheet, &word, b""));
+        inputs.push(input(&scene, &trees, &sheet, word, ""));
     }
     inputs
 }
@@ -179,14 +166,7 @@ fn addenda() -> Vec<Input> {
     for word in lexicon_shapes::addenda() {
         for tag in ["", "n", "p", "v", "s", "0", "nil", "x"] {
             for word in [word.to_string(), word.to_uppercase()] {
-                let sheet = new_sheet(16 * ITEM);
-                inputs.push(input(
-                    &scene,
-                    &trees,
-                    sheet,
-                    word.as_bytes(),
-                    tag.as_bytes(),
-                ));
+                inputs.push(input(&scene, &trees, &new_sheet(16 * ITEM), word, tag));
             }
         }
     }
@@ -200,25 +180,13 @@ fn other_sections() -> Vec<Input> {
     let mut inputs = vec![];
     for (i, store) in store_edges::altered_bytes().into_iter().enumerate() {
         let scene = scene.with_store(store);
-        let word = ["lead", "zz"][i % 2];
-        inputs.push(input(
-            &scene,
-            &leaf,
-            new_sheet(8 * ITEM),
-            word.as_bytes(),
-            b"",
-        ));
+        let (sheet, word) = (new_sheet(8 * ITEM), ["lead", "zz"][i % 2]);
+        inputs.push(input(&scene, &leaf, &sheet, word, ""));
     }
     for store in store_edges::limits() {
         let scene = scene.with_store(store);
         for word in ["lead", "a", "w0", "in"] {
-            inputs.push(input(
-                &scene,
-                &leaf,
-                new_sheet(60 * ITEM),
-                word.as_bytes(),
-                b"",
-            ));
+            inputs.push(input(&scene, &leaf, &new_sheet(60 * ITEM), word, ""));
         }
     }
     let unsound = vec![1; 128];
@@ -226,25 +194,24 @@ fn other_sections() -> Vec<Input> {
         let scene = scene.with_lexicon(&lexicon);
         for word in ["a", "b", "ab", "", "in", "zz", "lead"] {
             for sheet in [new_sheet(300 * ITEM), new_sheet(ITEM), unsound.clone()] {
-                inputs.push(input(&scene, &leaf, sheet, word.as_bytes(), b"n"));
+                inputs.push(input(&scene, &leaf, &sheet, word, "n"));
             }
         }
-        inputs.push(input(&scene, &leaf, new_sheet(999), &[b'a'; 48], b"n"));
+        inputs.push(input(&scene, &leaf, &new_sheet(999), [b'a'; 48], "n"));
     }
     for lexicon in lexicon_edges::small(3) {
         let scene = scene.with_lexicon(&lexicon);
         for (word, tag) in [("a", ""), ("b", "n"), ("b", "q")] {
-            let (word, tag) = (word.as_bytes(), tag.as_bytes());
-            inputs.push(input(&scene, &leaf, new_sheet(5 * ITEM), word, tag));
+            inputs.push(input(&scene, &leaf, &new_sheet(5 * ITEM), word, tag));
         }
     }
-    for trees in predict::limits() {
+    for trees in tree_edges::limits() {
         for word in ["", "a#", "7", "a", "xy", "yx", "lead", ","] {
             for sheet in [new_sheet(12 * ITEM), new_sheet(ITEM), unsound.clone()] {
-                inputs.push(input(&scene, &trees, sheet, word.as_bytes(), b""));
+                inputs.push(input(&scene, &trees, &sheet, word, ""));
             }
         }
-        inputs.push(input(&scene, &trees, new_sheet(999), &[b'a'; 48], b""));
+        inputs.push(input(&scene, &trees, &new_sheet(999), [b'a'; 48], ""));
     }
     inputs
 }
@@ -264,12 +231,11 @@ fn edges() -> Vec<Input> {
     for scene in &scenes {
         for sheet in &sheets {
             for word in words::edges() {
-                inputs.push(input(scene, &leaf, sheet.clone(), &word, b""));
+                inputs.push(input(scene, &leaf, sheet, word, ""));
             }
             for tag in words::tags() {
                 for word in ["Lead", "b", "a", "in", "qq"] {
-                    let word = word.as_bytes();
-                    inputs.push(input(scene, &leaf, sheet.clone(), word, &tag));
+                    inputs.push(input(scene, &leaf, sheet, word, &tag));
                 }
             }
         }

@@ -1,9 +1,10 @@
 //! Letter trees of many shapes, and ways to break them.
 
-use crate::random::Random;
-use crate::trees::{phone_table, Sections, Trees, INDEX, LONGEST_MODEL, NODE};
-use crate::words;
-use original::phoneset;
+use crate::prelude::*;
+use crate::shrink::{parts, without};
+use crate::tables::{self, phone_table, put};
+use crate::trees::{Sections, INDEX, LONGEST_MODEL, NODE};
+use std::ops::Range;
 
 /// A node: a question (feature, wanted byte, next on a match, next otherwise) or a leaf (255, phone number).
 #[derive(Clone, Copy)]
@@ -16,12 +17,7 @@ pub struct Node {
 
 impl Node {
     pub fn leaf(phone: u8) -> Node {
-        Node {
-            first: 255,
-            second: phone,
-            yes: 0,
-            no: 0,
-        }
+        Node::of(&[255, phone, 0, 0, 0, 0])
     }
 
     pub fn of(bytes: &[u8]) -> Node {
@@ -42,10 +38,6 @@ pub fn model(nodes: &[Node]) -> Vec<u8> {
     nodes.iter().flat_map(bytes).collect()
 }
 
-pub fn index(starts: &[u16; 26]) -> Vec<u8> {
-    starts.iter().flat_map(|s| s.to_le_bytes()).collect()
-}
-
 /// Trees before they are written as sections.
 struct Plan {
     names: Vec<Vec<u8>>,
@@ -56,11 +48,20 @@ struct Plan {
 
 impl Plan {
     fn sections(&self) -> Sections {
-        Sections {
-            phones: phone_table(&self.names),
-            index: index(&self.starts),
-            model: model(&self.nodes),
-        }
+        sections(&self.names, &self.starts, &self.nodes)
+    }
+
+    fn trees(self) -> Trees {
+        Trees::new(self.sections(), self.alphabet)
+    }
+}
+
+/// Sections of these phones, starts and nodes.
+pub fn sections<T: AsRef<[u8]>>(names: &[T], starts: &[u16; 26], nodes: &[Node]) -> Sections {
+    Sections {
+        phones: phone_table(names),
+        index: starts.iter().flat_map(|s| s.to_le_bytes()).collect(),
+        model: model(nodes),
     }
 }
 
@@ -85,24 +86,22 @@ pub fn random(random: &mut Random) -> Trees {
 
 /// Whole trees of one of the shapes, of a size that a list can hold.
 pub fn to_record(random: &mut Random, shape: usize) -> Trees {
-    let plan = loop {
-        let plan = plan(random, shape % SHAPES, 400);
-        if plan.names.len() > 4 && plan.nodes.len() > 4 {
-            break plan;
-        }
-    };
-    Trees::new(plan.sections(), plan.alphabet)
+    plan_of(random, shape, 400, 5..usize::MAX).trees()
 }
 
 /// Whole trees of a few nodes.
 pub fn few_to_record(random: &mut Random, shape: usize) -> Trees {
-    let plan = loop {
-        let plan = plan(random, shape % SHAPES, 24);
-        if (5..40).contains(&plan.names.len()) && (5..40).contains(&plan.nodes.len()) {
-            break plan;
+    plan_of(random, shape, 24, 5..40).trees()
+}
+
+/// A plan with so many names and nodes.
+fn plan_of(random: &mut Random, shape: usize, most: usize, size: Range<usize>) -> Plan {
+    loop {
+        let plan = plan(random, shape % SHAPES, most);
+        if size.contains(&plan.names.len()) && size.contains(&plan.nodes.len()) {
+            return plan;
         }
-    };
-    Trees::new(plan.sections(), plan.alphabet)
+    }
 }
 
 /// The largest model: a chain over its 65,536 nodes, with so many leaves at the end of it. Half of
@@ -133,7 +132,7 @@ pub fn deepest(random: &mut Random, leaves: usize) -> Trees {
         starts,
         alphabet: b"abcdefgh".to_vec(),
     };
-    Trees::new(plan.sections(), plan.alphabet)
+    plan.trees()
 }
 
 /// How many shapes there are.
@@ -142,34 +141,25 @@ const SHAPES: usize = 5;
 fn plan(random: &mut Random, shape: usize, most: usize) -> Plan {
     let names = names(random);
     let alphabet = words::alphabet(random);
-    let size = match random.weighted(&[1, 6, 3]) {
-        0 => 1,
-        1 => random.between(2, 40),
-        _ => random.between(2, most),
-    };
+    let size = random.ranged(&[(1, 1, 1), (6, 2, 40), (3, 2, most)]);
     let phones = names.len();
-    let (nodes, starts) = match shape {
-        0 => {
-            let nodes = (0..size).map(|_| leaf(random, phones)).collect();
-            anywhere(random, nodes)
-        }
-        1 => {
-            let nodes = chain(random, size, &alphabet, phones);
-            // mostly from the first node, so that walks are long
-            let (nodes, mut starts) = anywhere(random, nodes);
-            for start in starts.iter_mut().step_by(2) {
-                *start = 0;
-            }
-            (nodes, starts)
-        }
-        2 => {
-            let nodes = downhill(random, size, &alphabet, phones);
-            anywhere(random, nodes)
-        }
+    let nodes = match shape {
+        0 => (0..size).map(|_| leaf(random, phones)).collect(),
+        1 => chain(random, size, &alphabet, phones),
+        2 => downhill(random, size, &alphabet, phones),
         3 => {
             let nodes = downhill(random, size, &alphabet, phones);
-            let nodes = renumbered(random, nodes);
-            anywhere(random, nodes)
+            renumbered(random, nodes)
+        }
+        _ => vec![],
+    };
+    let (nodes, starts) = match shape {
+        0..=3 => {
+            let mut starts = std::array::from_fn(|_| random.below(nodes.len()) as u16);
+            // mostly from the first node of a chain, so that walks are long
+            let first = starts.iter_mut().step_by(2).filter(|_| shape == 1);
+            first.for_each(|start| *start = 0);
+            (nodes, starts)
         }
         _ => tree_of_each_letter(random, &alphabet, phones, most),
     };
@@ -183,57 +173,27 @@ fn plan(random: &mut Random, shape: usize, most: usize) -> Plan {
 
 /// The names of a phone table.
 fn names(random: &mut Random) -> Vec<Vec<u8>> {
-    let count = match random.weighted(&[1, 2, 12, 8, 2]) {
-        0 => 0,
-        1 => 1,
-        2 => random.between(2, 12),
-        3 => random.between(13, 80),
-        _ => 256,
-    };
-    let mut names: Vec<Vec<u8>> = (0..count).map(|_| name(random)).collect();
-    if count > 1 && random.once_in(2) {
+    let mut names = tables::names(random, name);
+    if names.len() > 1 && random.once_in(2) {
         names[0] = b"epsilon".to_vec();
     }
     names
 }
 
-const ODD_NAMES: [&str; 20] = [
-    "",
-    "-",
-    "--",
-    "-x",
-    "x-",
-    "x-y-z",
-    "epsilon-x",
-    "x-epsilon",
-    "epsilon1",
-    "epsilo",
-    "Epsilon",
-    "aaaaaaa-bbbbbbb",
-    "abcdefghijklmno",
-    "--------------a",
-    "0",
-    "1",
-    "-1",
-    "ae2",
-    "a b",
-    "ax11",
-];
+/// Odd names, parted by commas; the first is the empty one.
+const ODD_NAMES: &str = ",-,--,-x,x-,x-y-z,epsilon-x,x-epsilon,epsilon1,epsilo,Epsilon,\
+    aaaaaaa-bbbbbbb,abcdefghijklmno,--------------a,0,1,-1,ae2,a b,ax11";
 
 fn name(random: &mut Random) -> Vec<u8> {
     let known = phoneset::probe::names();
     match random.weighted(&[3, 9, 5, 3, 3, 1]) {
         0 => b"epsilon".to_vec(),
-        1 => [random.pick(&known), random.pick(&["", "", "0", "1"])]
-            .concat()
-            .into_bytes(),
-        2 => [random.pick(&known), "-", random.pick(&known)]
-            .concat()
-            .into_bytes(),
-        3 => [random.pick(&known), "1-", random.pick(&known), "0"]
-            .concat()
-            .into_bytes(),
-        4 => random.pick(&ODD_NAMES).as_bytes().to_vec(),
+        1 => (random.pick(&known).to_string() + random.pick(&["", "", "0", "1"])).into(),
+        2 => format!("{}-{}", random.pick(&known), random.pick(&known)).into(),
+        3 => format!("{}1-{}0", random.pick(&known), random.pick(&known)).into(),
+        4 => random
+            .pick(&ODD_NAMES.split(',').collect::<Vec<_>>())
+            .into(),
         _ => {
             let len = random.between(0, 15);
             (0..len).map(|_| random.below(128) as u8).collect()
@@ -301,9 +261,7 @@ fn downhill(random: &mut Random, size: usize, alphabet: &[u8], phones: usize) ->
 /// The same nodes in another order.
 fn renumbered(random: &mut Random, nodes: Vec<Node>) -> Vec<Node> {
     let mut place: Vec<usize> = (0..nodes.len()).collect();
-    for i in (1..place.len()).rev() {
-        place.swap(i, random.between(0, i));
-    }
+    random.shuffle(&mut place);
     let moved = |link: u16| place.get(usize::from(link)).map_or(link, |p| *p as u16);
     let mut to = nodes.clone();
     for (node, p) in nodes.iter().zip(&place) {
@@ -314,12 +272,6 @@ fn renumbered(random: &mut Random, nodes: Vec<Node>) -> Vec<Node> {
         };
     }
     to
-}
-
-/// Starts for nodes of which none is circular.
-fn anywhere(random: &mut Random, nodes: Vec<Node>) -> (Vec<Node>, [u16; 26]) {
-    let starts = std::array::from_fn(|_| random.below(nodes.len()) as u16);
-    (nodes, starts)
 }
 
 /// A binary tree for each letter, as in the real sections.
@@ -358,63 +310,109 @@ fn grow(
 }
 
 /// Breaks the form of a section, damages a tree, makes a circle, or alters any byte.
-fn break_one(random: &mut Random, sections: &mut Sections, phones: usize) {
+fn break_one(random: &mut Random, sections: &mut Sections, names: usize) {
     let nodes = sections.model.len() / NODE;
     let node = NODE * random.below(nodes.max(1));
-    match random.below(12) {
-        0 => {
-            let len = random.below(sections.phones.len() + 1);
-            sections.phones.truncate(len);
-        }
-        1 => {
-            let count = random.between(phones + 1, 300) as u32;
-            put(&mut sections.phones, 0, &count.to_le_bytes());
-        }
-        2 => put(&mut sections.phones, 4, &[random.between(16, 255) as u8]),
-        3 => {
-            let at = random.below(sections.phones.len() + 1);
-            put(&mut sections.phones, at, &[128 + random.below(128) as u8]);
-        }
-        4 => sections.index.truncate(random.below(INDEX)),
-        5 => {
-            let len = random.below(sections.model.len() + 1);
-            sections.model.truncate(len);
-        }
-        6 => sections.model.clear(),
+    let Sections {
+        phones,
+        index,
+        model,
+    } = sections;
+    match random.below(8 + tables::BREAKS) {
+        way if way < tables::BREAKS => tables::break_form(random, phones, names, way),
+        4 => index.truncate(random.below(INDEX)),
+        5 => model.truncate(random.below(model.len() + 1)),
+        6 => model.clear(),
         7 => {
             let longer = LONGEST_MODEL + NODE * usize::from(random.once_in(2));
             if random.once_in(20) {
-                sections.model.resize(longer, 255);
+                model.resize(longer, 255);
             }
         }
         8 => {
             let outside = [nodes, nodes + random.below(9), 65_535][random.below(3)] as u16;
-            let letter = 2 * random.below(26);
-            put(&mut sections.index, letter, &outside.to_le_bytes());
+            put(index, 2 * random.below(26), &outside.to_le_bytes());
         }
         9 => {
             // a link to anywhere: outside, back, or to itself
             let link = random.below(nodes + 2) as u16;
             let side = 2 + 2 * random.below(2);
-            put(&mut sections.model, node + side, &link.to_le_bytes());
+            put(model, node + side, &link.to_le_bytes());
         }
-        10 => put(&mut sections.model, node, &[255, phones.min(255) as u8]),
+        10 => put(model, node, &[255, names.min(255) as u8]),
         _ => {
             for _ in 0..random.between(1, 6) {
                 let byte = [random.byte()];
                 match random.below(3) {
-                    0 => put(&mut sections.phones, random.below(600), &byte),
-                    1 => put(&mut sections.index, random.below(INDEX), &byte),
-                    _ => put(&mut sections.model, random.below(NODE * nodes + 1), &byte),
+                    0 => put(phones, random.below(600), &byte),
+                    1 => put(index, random.below(INDEX), &byte),
+                    _ => put(model, random.below(NODE * nodes + 1), &byte),
                 }
             }
         }
     }
 }
 
-/// Writes bytes into a section, where it is long enough.
-fn put(section: &mut [u8], at: usize, bytes: &[u8]) {
-    if let Some(place) = section.get_mut(at..at + bytes.len()) {
-        place.copy_from_slice(bytes);
+/// Trees with nodes or phones left out, or plainer ones.
+impl Shrink for Rc<Trees> {
+    fn smaller(&self) -> Vec<Rc<Trees>> {
+        let all = match &self.names {
+            Some(names) => fewer_nodes(self, names),
+            None => self.sections.smaller(),
+        };
+        let made = |sections: Sections| Rc::new(Trees::new(sections, vec![]));
+        all.into_iter().map(made).collect()
     }
+}
+
+/// Nodes or phones left out, leaves in the place of questions, starts at the first node.
+fn fewer_nodes(trees: &Trees, names: &[Vec<u8>]) -> Vec<Sections> {
+    let sections = &trees.sections;
+    let mut all = vec![];
+    if sections.index.len() > INDEX {
+        all.push(sections.clone());
+        all[0].index.truncate(INDEX);
+    }
+    let nodes: Vec<Node> = sections.model.chunks(NODE).map(Node::of).collect();
+    let starts: [u16; 26] = std::array::from_fn(|i| trees.start(b'a' + i as u8) as u16);
+    for part in parts(nodes.len()) {
+        let moved = |link: u16| match usize::from(link) {
+            at if at >= part.end => link - part.len() as u16,
+            at if at > part.start => part.start as u16,
+            _ => link,
+        };
+        let mut kept = without(&nodes, &part);
+        for node in &mut kept {
+            node.yes = moved(node.yes);
+            node.no = moved(node.no);
+        }
+        all.push(self::sections(names, &starts.map(moved), &kept));
+    }
+    for part in parts(names.len()) {
+        let mut nodes = nodes.clone();
+        for node in nodes.iter_mut().filter(|node| node.first == 255) {
+            match usize::from(node.second) {
+                number if number >= part.end => node.second -= part.len() as u8,
+                number if number >= part.start => node.second = 0,
+                _ => {}
+            }
+        }
+        all.push(self::sections(&without(names, &part), &starts, &nodes));
+    }
+    if nodes.len() <= 64 {
+        for i in 0..nodes.len() {
+            let mut nodes = nodes.clone();
+            let plain = Node::leaf(nodes[i].second * u8::from(nodes[i].first == 255));
+            if model(&nodes[i..=i]) != model(&[plain]) {
+                nodes[i] = plain;
+                all.push(self::sections(names, &starts, &nodes));
+            }
+        }
+    }
+    for i in (0..26).filter(|i| starts[*i] != 0) {
+        let mut starts = starts;
+        starts[i] = 0;
+        all.push(self::sections(names, &starts, &nodes));
+    }
+    all
 }

@@ -1,0 +1,140 @@
+//! Texts of entries.
+
+use crate::prelude::*;
+
+/// Lines that are no entries; a text stops there.
+const FAULTY: [&[u8]; 10] = [
+    b":",
+    b" : k",
+    b"::",
+    b"a",
+    b"a # : k",
+    b"a #: k",
+    b"\"a\"",
+    b"\"a # b\" : k",
+    b"\x1c",
+    b"a\x1cn\x0bk",
+];
+
+/// What texts are made of: a store beside its phone table, words to add, and phones.
+pub struct Texts<'a> {
+    pub scene: &'a Scene,
+    pub words: &'a [Vec<u8>],
+    pub phones: &'a Phones,
+}
+
+impl Texts<'_> {
+    /// Some lines, not all of them entries; one in so many is faulty.
+    pub fn text(&self, random: &mut Random, faulty: usize) -> Vec<u8> {
+        let comments = [&b"#"[..], b"# a : k", b"#a:zz#:", b"##"];
+        let mut text = vec![];
+        for _ in 0..random.weighted(&[1, 4, 4, 3, 2, 1, 1]) {
+            match random.weighted(&[20, 1, 2]) {
+                _ if random.once_in(4 * faulty) => text.extend_from_slice(random.pick(&FAULTY)),
+                0 => text.extend(self.entry(random, faulty)),
+                1 => text.extend(blanks(random, 0)),
+                _ => {
+                    text.extend(blanks(random, 0));
+                    text.extend_from_slice(random.pick(&comments));
+                }
+            }
+            text.push(b'\n');
+        }
+        if random.once_in(2) {
+            text.pop();
+        }
+        if random.once_in(3 * faulty) {
+            let at = random.below(text.len() + 1);
+            text.insert(at, random.byte() | 128);
+        }
+        text
+    }
+
+    /// A line that adds an entry, or nearly.
+    fn entry(&self, random: &mut Random, faulty: usize) -> Vec<u8> {
+        let fault = match random.once_in(faulty) {
+            true => random.between(1, 9),
+            false => 0,
+        };
+        let count = random.ranged(&[(1, 0, 0), (12, 1, 4), (1, 5, 24), (1, 24, 24)]);
+        let (word, tag) = self.key(random);
+        let mut fields = vec![quoted(random, word)];
+        fields.extend(tag);
+        if random.once_in(8) {
+            fields.push(random.pick(&[&b"x"[..], b"nil", b"\x1c"]).to_vec());
+        }
+        let mut phones = store_shapes::known(random, self.scene, self.phones, count);
+        match fault {
+            1 => fields[0] = vec![b'w'; random.between(48, 52)],
+            2 => fields.insert(1, vec![b't'; random.between(48, 52)]),
+            3 => fields.clear(),
+            4 => phones.push(self.phones.phone(random)),
+            5 => phones.push(vec![b'p'; random.between(16, 20)]),
+            6 | 7 => phones.resize(random.between(25, 30), b"t".to_vec()),
+            _ => {}
+        }
+        let mut line = blanks(random, 0);
+        for field in &fields {
+            line.extend_from_slice(field);
+            line.extend(blanks(random, 1));
+        }
+        if fault < 8 {
+            line.push(b':');
+        }
+        for phone in &phones {
+            line.extend(blanks(random, 1));
+            line.extend_from_slice(phone);
+        }
+        line.extend(blanks(random, 0));
+        if random.once_in(8) {
+            line.extend_from_slice(b"# : zz");
+        }
+        if random.once_in(6) {
+            let at = random.below(line.len() + 1);
+            line.insert(at, random.pick_byte(b"::\"\"\x1c\x1c\x0b\r\t#"));
+        }
+        // the words and names may hold an end of a line, or a high byte in a tag
+        line.retain(|b| *b != b'\n' && *b < 128);
+        line
+    }
+
+    /// A word and its tag, if it has one; often an entry's of the store, most often if that is full.
+    fn key(&self, random: &mut Random) -> (Vec<u8>, Option<Vec<u8>>) {
+        let entries = self.scene.entries();
+        let known = match entries.len() {
+            0 => 0,
+            count if count == stores::room(&self.scene.store) => 3,
+            _ => 1,
+        };
+        if random.weighted(&[known, 2]) == 0 {
+            let entry = &entries[random.below(entries.len())].entry;
+            return (words::recased(random, &entry.word), Some(vec![entry.tag]));
+        }
+        let word = &self.words[random.below(self.words.len())];
+        let word = words::recased(random, word);
+        (word, random.once_in(2).then(|| words::tag(random)))
+    }
+}
+
+/// A word as a field, now and then with quote marks.
+fn quoted(random: &mut Random, mut word: Vec<u8>) -> Vec<u8> {
+    match random.below(12) {
+        0 | 1 => word = [b"\"", &word[..], b"\""].concat(),
+        2 => word = [b"\"\"", &word[..]].concat(),
+        3 => word = vec![b'"'; random.between(1, 4)],
+        4 => word.insert(random.below(word.len() + 1), b'"'),
+        _ => {}
+    }
+    if word.is_empty() {
+        word.push(b'"');
+    }
+    word
+}
+
+/// Some blanks, at least so many.
+fn blanks(random: &mut Random, least: usize) -> Vec<u8> {
+    let count = least + random.weighted(&[6, 2, 1]);
+    (0..count)
+        .map(|_| random.pick_byte(b"      \t\x0b\x0c\r"))
+        .collect()
+}

@@ -1,0 +1,97 @@
+//! What stores and sheets share: records of one size, which link to each other by their numbers, in lent bytes.
+
+use crate::random::Random;
+use crate::shrink::{parts, shorter};
+
+pub fn zeros(bytes: &[u8]) -> bool {
+    bytes.iter().all(|b| *b == 0)
+}
+
+pub fn number(bytes: &[u8]) -> usize {
+    usize::from(u16::from_le_bytes([bytes[0], bytes[1]]))
+}
+
+pub fn put(bytes: &mut [u8], at: usize, value: usize) {
+    bytes[at..at + 2].copy_from_slice(&(value as u16).to_le_bytes());
+}
+
+/// Whether something is so that a sound store or sheet has; if not, the row that counts why.
+pub fn ensure(is_so: bool, why: &'static str) -> Result<(), &'static str> {
+    is_so.then_some(()).ok_or(why)
+}
+
+/// Bytes of every value but 0, in turn.
+pub fn filled(len: usize) -> Vec<u8> {
+    (0..len).map(|at| 1 + (at % 251) as u8).collect()
+}
+
+/// Any bytes, or all the same.
+pub fn random(random: &mut Random, len: usize) -> Vec<u8> {
+    match random.once_in(4) {
+        true => vec![random.byte(); len],
+        false => random.bytes(len),
+    }
+}
+
+/// Fills the bytes from a place on.
+pub fn spoil(random: &mut Random, bytes: &mut [u8], from: usize) {
+    for byte in &mut bytes[from..] {
+        *byte = random.byte();
+    }
+}
+
+/// Bytes with one of them altered: each to some values, or where no field stands to the lowest of these.
+pub fn altered(good: &[u8], size: usize, last_field: usize, values: &[u8]) -> Vec<Vec<u8>> {
+    let mut all = vec![];
+    for (at, byte) in good.iter().enumerate() {
+        let near = [byte ^ 1, byte.wrapping_add(1)];
+        for value in values.iter().chain(&near) {
+            if value == byte || at % size > last_field && *value > 2 {
+                continue;
+            }
+            let mut altered = good.to_vec();
+            altered[at] = *value;
+            all.push(altered);
+        }
+    }
+    all
+}
+
+/// An unused record in the place of a used one, whose bytes it gets; the links stand at these places.
+pub fn in_place_of(
+    bytes: &mut [u8],
+    size: usize,
+    [used, unused]: [usize; 2],
+    links: impl Iterator<Item = usize>,
+) {
+    bytes.copy_within(size * used..size * (used + 1), size * unused);
+    for at in links {
+        if number(&bytes[at..]) == used {
+            put(bytes, at, unused);
+        }
+    }
+}
+
+/// The same number of zeros, if the bytes are others, for shrinking.
+pub fn zeroed(bytes: &[u8]) -> Vec<Vec<u8>> {
+    let zeros = (!zeros(bytes)).then(|| vec![0; bytes.len()]);
+    zeros.into_iter().collect()
+}
+
+/// Bytes with records left out or made zero, for shrinking; one by one in so many records.
+pub fn plainer(bytes: &[u8], size: usize, records: usize) -> Vec<Vec<u8>> {
+    let mut all = shorter(bytes);
+    all.truncate(64);
+    for records in 0..bytes.len() / size {
+        all.push(bytes[..size * records].to_vec());
+    }
+    let single = (0..bytes.len().min(size * records)).map(|at| at..at + 1);
+    for part in parts(bytes.len()).into_iter().chain(single) {
+        if !zeros(&bytes[part.clone()]) {
+            let mut bytes = bytes.to_vec();
+            bytes[part].fill(0);
+            all.push(bytes);
+        }
+    }
+    all
+}
