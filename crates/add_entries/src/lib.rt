@@ -13,7 +13,7 @@ pub fn add_entries(table: &[u8], store: &mut [u8], spare: &mut [u8], text: &[u8]
     if !data::is_phone_table(table) {
         return Lines::Refused(Refusal::Section, 0);
     }
-    if !store::is_sound(store) {
+    if !sound_store::is_sound(store) {
         return Lines::Refused(Refusal::Unsound, 0);
     }
     if spare.len() != store.len() {

@@ -12,7 +12,7 @@ pub fn add_entry(table: &[u8], store: &mut [u8], word: &[u8], tag: &[u8], phones
     if !data::is_phone_table(table) {
         return Done::Refused(Refusal::Section);
     }
-    if !store::is_sound(store) {
+    if !sound_store::is_sound(store) {
         return Done::Refused(Refusal::Unsound);
     }
     if !adding::are_texts(word, tag, phones) {

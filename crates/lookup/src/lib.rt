@@ -21,7 +21,7 @@ pub fn lookup(
     if !compiled::read_lexicon(phones, index, &mut places) {
         return Looked::Refused(Refusal::Section);
     }
-    if !store::is_sound(store) {
+    if !sound_store::is_sound(store) {
         return Looked::Refused(Refusal::Unsound);
     }
     if !texts::both(texts::is_word(word), texts::is_word(tag)) {

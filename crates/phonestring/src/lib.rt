@@ -75,7 +75,7 @@ pub fn phone_string(sheet: &[u8], out: &mut [u8]) -> Joined
     ensures { λ r. ⌜ toldJoined r ≡ phoneString (now (sheet .entry)) (now (out .entry)) ⌝ }
     ensures { λ _. ⌜ now (out .exit) ≡ stringAfter (now (sheet .entry)) (now (out .entry)) ⌝ }
 {
-    if !utterance::is_sound(sheet) {
+    if !sound_sheet::is_sound(sheet) {
         return Joined::Refused(Refusal::Unsound);
     }
     let n = count(sheet);

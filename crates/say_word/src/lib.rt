@@ -34,7 +34,7 @@ pub fn say_word(
     ) {
         return Said::Refused(Refusal::Section);
     }
-    if !texts::both(store::is_sound(store), utterance::is_sound(sheet)) {
+    if !texts::both(sound_store::is_sound(store), sound_sheet::is_sound(sheet)) {
         return Said::Refused(Refusal::Unsound);
     }
     if !texts::both(texts::is_word(word), texts::is_word(tag)) {

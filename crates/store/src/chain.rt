@@ -10,7 +10,7 @@ ghost use Rattle.cells.specs.Cells.{phonesOf};
 ghost use Rattle.slots_spec.specs.Slot.{isFolded};
 ghost use Rattle.store_spec.specs.Store.{last as lastOf, used as usedOf, slots, isWanted, isSound};
 ghost use Rattle.store_spec.specs.Adding.{entryFor, seek as seekOf, cutOut, tied, addedNew, isFull, kept};
-use crate::sound;
+use crate::fields;
 
 // Of the n slots behind slot 0, the one that the first wanted entry stands behind; the last if there is none.
 pub fn seek(store: &[u8], n: usize, any: bool, word: &[u8], tag: u8) -> usize
@@ -19,11 +19,11 @@ pub fn seek(store: &[u8], n: usize, any: bool, word: &[u8], tag: u8) -> usize
     let mut p = 0;
     let mut left = n;
     while 0 < left {
-        let q = sound::next(store, p);
+        let q = fields::next(store, p);
         if q == 0 {
             return p;
         }
-        if sound::is_wanted(sound::slot(store, q), any, word, tag) {
+        if fields::is_wanted(fields::slot(store, q), any, word, tag) {
             return p;
         }
         p = q;
@@ -37,7 +37,7 @@ fn cut_out(store: &mut [u8], p: usize)
     requires { ⌜ (512 * p + 512 ≤ length (now store)) × (p < 65536) ⌝ }
     ensures { λ _. ⌜ now (store .exit) ≡ cutOut (now (store .entry)) p ⌝ }
 {
-    let q = sound::next(store, p);
+    let q = fields::next(store, p);
     let last = records::u16_at(store, 2);
     let behind = records::u16_at(store, 512 * q);
     records::put_u16(store, 512 * p, behind);
@@ -81,9 +81,9 @@ pub fn add(store: &mut [u8], tag: u8, word: &[u8], phones: &[u8]) -> bool
     ensures { λ r. ⌜ r ≡ not (isFull (now (store .entry)) (entryFor tag (now (word .entry)) (now (phones .entry)))) ⌝ }
     ensures { λ _. ⌜ now (store .exit) ≡ kept (now (store .entry)) (entryFor tag (now (word .entry)) (now (phones .entry))) ⌝ }
 {
-    let n = sound::used(store);
+    let n = fields::used(store);
     let p = seek(store, n, false, word, tag);
-    let q = sound::next(store, p);
+    let q = fields::next(store, p);
     if q == 0 {
         return add_new(store, n, tag, word, phones);
     }

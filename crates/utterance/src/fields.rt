@@ -3,7 +3,7 @@ ghost use mathlib.Core.Path.{_≡_};
 ghost use Prim.Native.Nat.{_<_};
 ghost use Rattle.records.specs.Fields.{u16At};
 ghost use Rattle.records.specs.Records.{recordAt};
-ghost use Rattle.utterance_spec.specs.Sheet.{at, used as usedOf};
+ghost use Rattle.utterance_spec.specs.Sheet.{at, used as usedOf, isSheetLength};
 
 // The bytes of item n.
 pub fn item(sheet: &[u8], n: u16) -> &[u8]
@@ -76,4 +76,14 @@ pub fn text(sheet: &[u8], n: u16) -> &[u8]
     ensures { λ r. ⌜ now r ≡ at (now (sheet .entry)) n .text ⌝ }
 {
     items::text(item(sheet, n))
+}
+
+// Whether a sheet may have this length.
+pub fn is_sheet_length(n: usize) -> bool
+    ensures { λ r. ⌜ r ≡ isSheetLength n ⌝ }
+{
+    if n < 64 {
+        return false;
+    }
+    n <= 65536
 }

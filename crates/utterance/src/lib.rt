@@ -1,14 +1,16 @@
-// The sheet (01, Store and sheet): items of 64 bytes, words with their syllables and phones.
+// The sheet (01, Store and sheet): items of 64 bytes, words with their syllables and phones; their fields and links.
 mod fields;
-mod inside;
+pub mod inside;
 mod links;
-mod order;
-mod sound;
 
 pub use fields::follow;
+pub use fields::is_sheet_length;
+pub use fields::item;
 pub use fields::last;
 pub use fields::prev;
 pub use fields::text;
 pub use fields::used;
-pub use sound::is_sheet_length;
-pub use sound::is_sound;
+pub use links::after;
+pub use links::is_full;
+pub use links::is_parent;
+pub use links::is_sibling;
