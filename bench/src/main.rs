@@ -2,21 +2,17 @@
 
 #[cfg(feature = "original")]
 mod agreement;
+mod cells;
 mod count;
 mod library;
 mod measure;
 #[cfg(feature = "original")]
 mod original_side;
+mod ours;
 mod rows;
 mod stage;
 mod tables;
 
-#[path = "../../oracle/src/cells.rs"]
-#[allow(dead_code)]
-mod cells;
-#[path = "../../oracle/src/ours.rs"]
-#[allow(dead_code)]
-mod ours;
 #[path = "../../oracle/src/random.rs"]
 #[allow(dead_code)]
 mod random;
