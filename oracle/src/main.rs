@@ -74,21 +74,14 @@ fn main() -> ExitCode {
         Runner::<new_store::NewStore>::boxed(seed),
         Runner::<add_entry::AddEntry>::boxed(seed),
         Runner::<add_entries::AddEntries>::boxed(seed),
+        Runner::<new_sheet::NewSheet>::boxed(seed),
+        Runner::<say_word::SayWord>::boxed(seed),
+        Runner::<phone_string::PhoneString>::boxed(seed),
+        Runner::<lists::Lists>::boxed(seed),
     ];
-    // the recorded list needs no library
-    if ours::SHEETS || arguments.record.is_some() {
-        calls.push(Runner::<new_sheet::NewSheet>::boxed(seed));
-        calls.push(Runner::<say_word::SayWord>::boxed(seed));
-        calls.push(Runner::<phone_string::PhoneString>::boxed(seed));
-        calls.push(Runner::<lists::Lists>::boxed(seed));
-    }
     if let Limit::Lists(_) = arguments.limit {
         // nothing else then
         calls.drain(..calls.len() - 1);
-        if !ours::SHEETS {
-            eprintln!("the library has no sheets: see the feature `sheets` in Cargo.toml");
-            return ExitCode::from(MISUSED);
-        }
     }
     if let Some(folder) = &arguments.record {
         return match record::write(&calls, folder, seed, arguments.count) {
