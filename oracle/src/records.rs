@@ -15,11 +15,6 @@ pub fn put(bytes: &mut [u8], at: usize, value: usize) {
     bytes[at..at + 2].copy_from_slice(&(value as u16).to_le_bytes());
 }
 
-/// Whether something is so that a sound store or sheet has; if not, the row that counts why.
-pub fn ensure(is_so: bool, why: &'static str) -> Result<(), &'static str> {
-    is_so.then_some(()).ok_or(why)
-}
-
 /// Bytes of every value but 0, in turn.
 pub fn filled(len: usize) -> Vec<u8> {
     (0..len).map(|at| 1 + (at % 251) as u8).collect()

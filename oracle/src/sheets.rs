@@ -1,6 +1,6 @@
 //! The sheet: 01's layout, read and written by the driver itself.
 
-use crate::records::{ensure, number, put, zeros};
+use crate::records::{number, put, zeros};
 use crate::spoken::{Syllable, Word};
 use crate::words;
 
@@ -37,33 +37,6 @@ pub struct Placed {
     pub items: Vec<usize>,
 }
 
-/// Why a sheet is refused by 2: the rows of the table that count it.
-pub const UNSOUND: &[&str] = &[
-    "sheet: wrong length",
-    "sheet: bytes beside item 0's fields",
-    "sheet: more used than there are items",
-    "sheet: link that leaves the used items",
-    "sheet: link back to an item",
-    "sheet: used item that no link reaches",
-    "sheet: wrong kind",
-    "sheet: wrong parent",
-    "sheet: 'last word' is another",
-    "sheet: 'last child' is another",
-    "sheet: stress that is neither 48 nor 49",
-    "sheet: syllable without a phone",
-    "sheet: word over 47 bytes",
-    "sheet: phone over 15 bytes",
-    "sheet: text with a high byte",
-    "sheet: bytes past a text",
-    "sheet: syllable with a text",
-    "sheet: stress of a word or a phone",
-    "sheet: child of a phone",
-    "sheet: phone links of a word or a syllable",
-    "sheet: bytes 14 and 15 of an item",
-    "sheet: phones forwards in another order",
-    "sheet: phones backwards in another order",
-];
-
 /// Whether a sheet's length is right.
 pub fn has_length(len: usize) -> bool {
     (ITEM..=LARGEST).contains(&len)
@@ -71,17 +44,10 @@ pub fn has_length(len: usize) -> bool {
 
 /// The words of a sound sheet; of any other sheet, what is amiss.
 pub fn read(sheet: &[u8]) -> Result<Vec<Placed>, &'static str> {
-    ensure(has_length(sheet.len()), "sheet: wrong length")?;
-    let items: Vec<&[u8]> = sheet.chunks_exact(ITEM).collect();
-    let used = number(&items[0][USED..]);
-    ensure(
-        zeros(&items[0][..FIRST]) && zeros(&items[0][LINKS_END..]),
-        "sheet: bytes beside item 0's fields",
-    )?;
-    ensure(used < items.len(), "sheet: more used than there are items")?;
+    of_head(sheet)?;
     let mut tree = Tree {
-        seen: vec![false; used + 1],
-        items,
+        seen: vec![false; unused(sheet) / ITEM],
+        items: sheet.chunks_exact(ITEM).collect(),
     };
     let mut words = vec![];
     let mut phones = vec![];
@@ -90,35 +56,25 @@ pub fn read(sheet: &[u8]) -> Result<Vec<Placed>, &'static str> {
         let mut syllables = vec![];
         for at in tree.children(at, SYLLABLE)? {
             let below = tree.children(at, PHONE)?;
-            ensure(!below.is_empty(), "sheet: syllable without a phone")?;
-            let texts: Result<_, _> = below.iter().map(|at| read_phone(tree.items[*at])).collect();
+            of_fields(tree.items[at])?;
+            let texts: Result<_, _> = below.iter().map(|at| read_text(tree.items[*at])).collect();
             syllables.push(Syllable {
-                stress: read_syllable(tree.items[at])?,
+                stress: tree.items[at][STRESS],
                 phones: texts?,
             });
             items.push(at);
             items.extend(&below);
             phones.extend(below);
         }
-        let text = read_word(tree.items[at])?;
+        let text = read_text(tree.items[at])?;
         let word = Word { text, syllables };
         words.push(Placed { word, items });
     }
-    ensure(
-        !tree.seen[1..].contains(&false),
-        "sheet: used item that no link reaches",
-    )?;
+    of_all(&tree.seen)?;
     // item 0 stands before the first phone and behind the last
     let ring: Vec<usize> = [&[0], &phones[..], &[0]].concat();
     for pair in ring.windows(2) {
-        ensure(
-            number(&tree.items[pair[0]][BEHIND..]) == pair[1],
-            "sheet: phones forwards in another order",
-        )?;
-        ensure(
-            number(&tree.items[pair[1]][BEFORE..]) == pair[0],
-            "sheet: phones backwards in another order",
-        )?;
+        of_neighbours(&tree.items, pair[0], pair[1])?;
     }
     Ok(words)
 }
@@ -135,62 +91,80 @@ impl Tree<'_> {
         let mut children = vec![];
         let mut at = number(&self.items[parent][FIRST..]);
         while at != 0 {
-            match self.seen.get_mut(at) {
-                None => return Err("sheet: link that leaves the used items"),
-                Some(true) => return Err("sheet: link back to an item"),
-                Some(seen) => *seen = true,
-            }
-            let item = self.items[at];
-            ensure(item[0] == kind, "sheet: wrong kind")?;
-            ensure(number(&item[PARENT..]) == parent, "sheet: wrong parent")?;
-            ensure(
-                zeros(&item[LINKS_END..LEN]),
-                "sheet: bytes 14 and 15 of an item",
-            )?;
+            of_link(at, &self.seen)?;
+            self.seen[at] = true;
+            of_child(self.items[at], kind, parent)?;
             children.push(at);
-            at = number(&item[NEXT..]);
+            at = number(&self.items[at][NEXT..]);
         }
-        match children.last().unwrap_or(&0) {
-            last if *last == number(&self.items[parent][LAST..]) => Ok(children),
-            _ if parent == 0 => Err("sheet: 'last word' is another"),
-            _ => Err("sheet: 'last child' is another"),
-        }
+        of_children(self.items[parent], children.last().copied())?;
+        Ok(children)
     }
-}
-
-fn read_word(item: &[u8]) -> Result<Vec<u8>, &'static str> {
-    has_no_phone_links(item)?;
-    read_text(item, words::LONGEST, "sheet: word over 47 bytes")
-}
-
-fn has_no_phone_links(item: &[u8]) -> Result<(), &'static str> {
-    let links = &item[BEFORE..LINKS_END];
-    ensure(zeros(links), "sheet: phone links of a word or a syllable")
-}
-
-fn read_syllable(item: &[u8]) -> Result<u8, &'static str> {
-    has_no_phone_links(item)?;
-    ensure(zeros(&item[LEN..]), "sheet: syllable with a text")?;
-    match item[STRESS] {
-        stress @ (b'0' | b'1') => Ok(stress),
-        _ => Err("sheet: stress that is neither 48 nor 49"),
-    }
-}
-
-fn read_phone(item: &[u8]) -> Result<Vec<u8>, &'static str> {
-    ensure(zeros(&item[FIRST..PARENT]), "sheet: child of a phone")?;
-    read_text(item, LONGEST_PHONE, "sheet: phone over 15 bytes")
 }
 
 /// The text of a word or a phone, or what is amiss with it.
-fn read_text(item: &[u8], longest: usize, too_long: &'static str) -> Result<Vec<u8>, &'static str> {
-    let len = usize::from(item[LEN]);
-    ensure(item[STRESS] == 0, "sheet: stress of a word or a phone")?;
-    ensure(len <= longest, too_long)?;
-    let (text, past) = item[TEXT..].split_at(len);
-    ensure(text.is_ascii(), "sheet: text with a high byte")?;
-    ensure(zeros(past), "sheet: bytes past a text")?;
-    Ok(text.to_vec())
+fn read_text(item: &[u8]) -> Result<Vec<u8>, &'static str> {
+    of_fields(item)?;
+    Ok(item[TEXT..][..item[LEN].into()].to_vec())
+}
+
+checks! { pub UNSOUND:
+    /// A sheet's length, and its item 0.
+    of_head(sheet: &[u8]) [
+        "sheet: wrong length" => has_length(sheet.len()),
+        "sheet: bytes beside item 0's fields" =>
+            zeros(&sheet[..FIRST]) && zeros(&sheet[LINKS_END..ITEM]),
+        "sheet: more used than there are items" => unused(sheet) <= sheet.len(),
+    ]
+
+    /// An item that a link leads to.
+    of_link(at: usize, seen: &[bool]) [
+        "sheet: link that leaves the used items" => at < seen.len(),
+        "sheet: link back to an item" => !seen[at],
+    ]
+
+    /// A child of an item.
+    of_child(item: &[u8], kind: u8, parent: usize) [
+        "sheet: wrong kind" => item[0] == kind,
+        "sheet: wrong parent" => number(&item[PARENT..]) == parent,
+        "sheet: bytes 14 and 15 of an item" => zeros(&item[LINKS_END..LEN]),
+    ]
+
+    /// All children of an item; item 0 has no kind.
+    of_children(parent: &[u8], last: Option<usize>) {
+        let is_last = number(&parent[LAST..]) == last.unwrap_or(0);
+    } [
+        "sheet: 'last word' is another" => parent[0] != 0 || is_last,
+        "sheet: 'last child' is another" => parent[0] == 0 || is_last,
+        "sheet: syllable without a phone" => parent[0] != SYLLABLE || last.is_some(),
+    ]
+
+    /// What an item of its kind has beside its links in the tree.
+    of_fields(item: &[u8]) {
+        let [word, syllable, phone] = [WORD, SYLLABLE, PHONE].map(|kind| item[0] == kind);
+        let len = usize::from(item[LEN]);
+    } [
+        "sheet: phone links of a word or a syllable" => phone || zeros(&item[BEFORE..LINKS_END]),
+        "sheet: child of a phone" => !phone || zeros(&item[FIRST..PARENT]),
+        "sheet: syllable with a text" => !syllable || zeros(&item[LEN..]),
+        "sheet: stress that is neither 48 nor 49" => !syllable || matches!(item[STRESS], b'0' | b'1'),
+        "sheet: stress of a word or a phone" => syllable || item[STRESS] == 0,
+        "sheet: word over 47 bytes" => !word || len <= words::LONGEST,
+        "sheet: phone over 15 bytes" => !phone || len <= LONGEST_PHONE,
+        "sheet: text with a high byte" => item[TEXT..][..len].is_ascii(),
+        "sheet: bytes past a text" => zeros(&item[TEXT + len..]),
+    ]
+
+    /// All used items.
+    of_all(seen: &[bool]) [
+        "sheet: used item that no link reaches" => !seen[1..].contains(&false),
+    ]
+
+    /// Two phones of which one stands behind the other.
+    of_neighbours(items: &[&[u8]], one: usize, other: usize) [
+        "sheet: phones forwards in another order" => number(&items[one][BEHIND..]) == other,
+        "sheet: phones backwards in another order" => number(&items[other][BEFORE..]) == one,
+    ]
 }
 
 /// An item before it is written.

@@ -56,7 +56,8 @@ impl Call for AddEntries {
     const MET: Table = &[
         rule::ROWS,
         &[&["spare of another length", "7: 25 phones"]],
-        &[STORE_ORDER, UNSOUND],
+        &[STORE_ORDER],
+        UNSOUND,
     ];
     const LIBRARY: Function = ours::add_entries;
 

@@ -39,7 +39,8 @@ impl Call for AddEntry {
         words::WORD,
         cells::PHONES,
         cells::UNREAD,
-        &[STORE_ORDER, UNSOUND],
+        &[STORE_ORDER],
+        UNSOUND,
     ];
     const LIBRARY: Function = ours::add_entry;
 

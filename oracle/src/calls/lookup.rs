@@ -50,7 +50,8 @@ impl Call for Lookup {
         rule::ROWS,
         rule::WAYS,
         store_edges::STORE,
-        &[OUTPUT_OR_NONE, DAMAGE, UNSOUND],
+        &[OUTPUT_OR_NONE, DAMAGE],
+        UNSOUND,
     ];
     const LIBRARY: Function = ours::lookup;
 

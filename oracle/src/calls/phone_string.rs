@@ -28,7 +28,8 @@ impl Call for PhoneString {
         cells::PHONES,
         ROWS,
         sheet_edges::SHEET,
-        &[OUTPUT_OR_NONE, TOO_SHORT, UNSOUND],
+        &[OUTPUT_OR_NONE, TOO_SHORT],
+        UNSOUND,
     ];
     const LIBRARY: Function = ours::phone_string;
 

@@ -60,7 +60,8 @@ impl Call for SayWord {
             "6: compiled entry",
             "6: letter tree",
         ]],
-        &[sheets::UNSOUND, stores::UNSOUND],
+        sheets::UNSOUND,
+        stores::UNSOUND,
     ];
     const LIBRARY: Function = ours::say_word;
 
