@@ -244,6 +244,11 @@ fn output_row<C: Call>(need: usize, len: usize) -> &'static str {
     }
 }
 
+/// The row of a number, of rows of which each but the first starts at one of these.
+pub fn row_of(rows: Rows, starts: &[usize], number: usize) -> &'static str {
+    rows[starts.partition_point(|start| *start <= number)]
+}
+
 /// The row that counts an answer.
 pub fn row(refusal: u32, accepted: &str) -> String {
     match refusal {

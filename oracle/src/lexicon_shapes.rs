@@ -15,12 +15,7 @@ pub struct Shape {
 
 /// A whole lexicon, sorted or not.
 pub fn whole(random: &mut Random, phones: &Phones) -> Shape {
-    let most = match random.weighted(&[60, 30, 4, 1]) {
-        0 => 12,
-        1 => 100,
-        2 => 800,
-        _ => 3_000,
-    };
+    let most = [12, 100, 800, 3_000][random.weighted(&[60, 30, 4, 1])];
     plan(random, phones, most)
 }
 

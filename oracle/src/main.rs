@@ -38,9 +38,7 @@ mod tree_shapes;
 mod trees;
 mod words;
 
-use calls::{add_entries, add_entry, check_lexicon, is_sayable, is_vowel, lists, lookup};
-use calls::{new_sheet, new_store, phone_string, predict, say_word, split_stress, syllabify};
-use run::{Compared, Limit, Runner};
+use run::Limit;
 use std::process::ExitCode;
 
 const USAGE: &str =
@@ -63,22 +61,7 @@ fn main() -> ExitCode {
     };
     call::quiet_panics();
     let seed = arguments.seed;
-    let mut calls: Vec<Box<dyn Compared>> = vec![
-        Runner::<predict::Predict>::boxed(seed),
-        Runner::<syllabify::Syllabify>::boxed(seed),
-        Runner::<is_sayable::IsSayable>::boxed(seed),
-        Runner::<is_vowel::IsVowel>::boxed(seed),
-        Runner::<split_stress::SplitStress>::boxed(seed),
-        Runner::<check_lexicon::CheckLexicon>::boxed(seed),
-        Runner::<lookup::Lookup>::boxed(seed),
-        Runner::<new_store::NewStore>::boxed(seed),
-        Runner::<add_entry::AddEntry>::boxed(seed),
-        Runner::<add_entries::AddEntries>::boxed(seed),
-        Runner::<new_sheet::NewSheet>::boxed(seed),
-        Runner::<say_word::SayWord>::boxed(seed),
-        Runner::<phone_string::PhoneString>::boxed(seed),
-        Runner::<lists::Lists>::boxed(seed),
-    ];
+    let mut calls = calls::all(seed);
     if let Limit::Lists(_) = arguments.limit {
         // nothing else then
         calls.drain(..calls.len() - 1);

@@ -6,17 +6,9 @@ use crate::stores::{Placed, LARGEST};
 
 /// A sound store beside a lexicon that has its form, grown by adds over some words.
 pub fn random(random: &mut Random, empty: &Scene, words: &[Vec<u8>], phones: &Phones) -> Vec<u8> {
-    let slots = match random.weighted(&[3, 16, 6, 1]) {
-        0 => 1,
-        1 => random.between(2, 8),
-        2 => random.between(2, 24),
-        _ => LARGEST / SLOT,
-    };
-    let adds = match random.weighted(&[1, 4, 4]) {
-        0 => 0,
-        1 => slots - 1,
-        _ => random.below(2 * slots),
-    };
+    let all = LARGEST / SLOT;
+    let slots = random.ranged(&[(3, 1, 1), (16, 2, 8), (6, 2, 24), (1, all, all)]);
+    let adds = random.ranged(&[(1, 0, 0), (4, slots - 1, slots - 1), (4, 0, 2 * slots - 1)]);
     of_size(random, empty, words, phones, slots, adds)
 }
 

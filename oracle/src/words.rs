@@ -72,12 +72,12 @@ pub fn is_refused(word: &[u8]) -> bool {
 
 /// A word that 01 accepts; most are short.
 pub fn accepted(random: &mut Random, alphabet: &[u8]) -> Vec<u8> {
-    let len = match random.weighted(&[24, 6, 1, 1]) {
-        0 => random.between(1, 10),
-        1 => random.between(1, LONGEST),
-        2 => LONGEST,
-        _ => 0,
-    };
+    let len = random.ranged(&[
+        (24, 1, 10),
+        (6, 1, LONGEST),
+        (1, LONGEST, LONGEST),
+        (1, 0, 0),
+    ]);
     // now and then a letter that the tables do not ask for
     let wild = random.once_in(4);
     let mut letter = |_| match wild && random.once_in(5) {

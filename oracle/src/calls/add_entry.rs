@@ -204,11 +204,8 @@ pub fn spoil(random: &mut Random, given: &mut Add, phones: &Phones) {
         list.rest = random.bytes(rest);
     }
     if random.once_in(16) {
-        let more = match random.weighted(&[4, 2, 1]) {
-            0 => MOST_PHONES + 1,
-            1 => random.between(MOST_PHONES, 40),
-            _ => random.between(90, 130),
-        };
+        let one = MOST_PHONES + 1;
+        let more = random.ranged(&[(4, one, one), (2, MOST_PHONES, 40), (1, 90, 130)]);
         list.cells.resize(more, cell(b"t"));
     }
     if !list.cells.is_empty() {

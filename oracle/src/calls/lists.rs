@@ -157,12 +157,7 @@ impl Call for Lists {
         };
         let log = self.run(input, &mut beside)?;
         met.all(lengths(input));
-        let row = match input.steps.len() {
-            0 => "lists of no call",
-            1..=5 => "lists of 1 to 5 calls",
-            6..=20 => "lists of 6 to 20 calls",
-            _ => "lists of more calls",
-        };
+        let row = row_of(Self::ANSWERS, &[1, 6, 21], input.steps.len());
         let answer = Answer::accepted(0, input.steps.len());
         Ok(Told::new(answer, row, vec![log]))
     }

@@ -87,11 +87,7 @@ impl Call for PhoneString {
         let phones = words.iter().flat_map(|placed| placed.word.phones());
         let phones: Vec<&[u8]> = phones.map(|phone| &phone[..]).collect();
         let text = spoken::phone_string(&phones)?.into_bytes();
-        let row = match text.len() {
-            0 => "no bytes",
-            1..=20 => "bytes 1 to 20",
-            _ => "bytes 21 and more",
-        };
+        let row = row_of(Self::ANSWERS, &[1, 21], text.len());
         met.all(cells::of_phones(&phones));
         met.all(features(&words, &phones));
         met.all(sheet_edges::features(&input.sheet, &words));

@@ -89,12 +89,7 @@ impl Call for Predict {
         let stressed = phones.iter().any(|p| p.ends_with(['0', '1']));
         met.add("phone with a stress", stressed);
         met.all(cells::of_phones(&phones));
-        let row = match phones.len() {
-            0 => "phones 0",
-            1..=5 => "phones 1 to 5",
-            6..=47 => "phones 6 to 47",
-            _ => "phones 48 to 94",
-        };
+        let row = row_of(Self::ANSWERS, &[1, 6, 48], phones.len());
         let answer = Answer::accepted(0, phones.len());
         Ok(Told::new(answer, row, vec![cells(&phones)]))
     }

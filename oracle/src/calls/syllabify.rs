@@ -31,7 +31,7 @@ impl Call for Syllabify {
         "7 syllables and more",
     ];
     const REFUSALS: &'static [u32] = &[3, 7, 9];
-    const MET: Table = &[&[PLACES, OUTPUT], cells::PHONES, ROWS, cells::UNREAD];
+    const MET: Table = &[&[OUTPUT], cells::PHONES, ROWS, cells::UNREAD];
     const LIBRARY: Function = ours::syllabify;
 
     fn short(&self) -> Vec<Input> {
@@ -43,12 +43,9 @@ impl Call for Syllabify {
     }
 
     fn random(&mut self, random: &mut Random) -> Input {
-        let len = match random.weighted(&[40, 6, 1, 1]) {
-            0 => random.between(0, 12),
-            1 => random.between(0, LONGEST),
-            2 => LONGEST,
-            _ => random.between(LONGEST + 1, LONGEST + 30),
-        };
+        let accepted = [(40, 0, 12), (6, 0, LONGEST), (1, LONGEST, LONGEST)];
+        let refused = [(1, LONGEST + 1, LONGEST + 30)];
+        let len = random.ranged(&[&accepted[..], &refused].concat());
         let mut list = List::of(&self.phones.list(random, len));
         if random.once_in(6) {
             list.spoil_padding(random);
@@ -80,13 +77,8 @@ impl Call for Syllabify {
             .map_err(|refusal| Stop::Refused(refusal, count))?;
         let phones: Vec<&str> = cells.iter().map(|cell| ascii(text(cell))).collect();
         let marks = ask(|| lexicon::syllabify(&phones))?;
-        let row = match marks.iter().filter(|cut| **cut).count() {
-            0 => "marks 0",
-            1 => "one syllable",
-            2 => "2 syllables",
-            3..=6 => "3 to 6 syllables",
-            _ => "7 syllables and more",
-        };
+        let syllables = marks.iter().filter(|cut| **cut).count();
+        let row = row_of(Self::ANSWERS, &[1, 2, 3, 7], syllables);
         met.all(places(&phones, &marks));
         met.all(cells::of_phones(&phones));
         met.all(features(&phones));
@@ -242,23 +234,6 @@ fn edges() -> Vec<Input> {
     inputs
 }
 
-/// What decides a place, and whether an onset is an odd one.
-const PLACES: Rows = &[
-    "place: the last",
-    "place: next is pau",
-    "place: no vowel later",
-    "place: no vowel yet",
-    "place: next is a vowel",
-    "place: next is ng",
-    "place: vowel second",
-    "place: vowel third, onset",
-    "place: vowel third, no onset",
-    "place: vowel fourth, onset",
-    "place: vowel fourth, no onset",
-    "place: vowel later still",
-    "onset of phones that are in no table",
-];
-
 /// The rule of 01 that decides each place, by the original's own marks.
 fn places(phones: &[&str], marks: &[bool]) -> Vec<&'static str> {
     let vowel: Vec<bool> = phones.iter().map(|p| phoneset::is_vowel(p)).collect();
@@ -268,32 +243,42 @@ fn places(phones: &[&str], marks: &[bool]) -> Vec<&'static str> {
         seen |= vowel[i];
         let rest = &phones[i + 1..];
         let next_vowel = vowel[i + 1..].iter().position(|v| *v);
-        rows.push(match (rest.first(), next_vowel) {
-            (None, _) => "place: the last",
-            (Some(&"pau"), _) => "place: next is pau",
-            (_, None) => "place: no vowel later",
-            _ if !seen => "place: no vowel yet",
-            (_, Some(0)) => "place: next is a vowel",
-            (Some(&"ng"), _) => "place: next is ng",
-            (_, Some(1)) => "place: vowel second",
-            (_, Some(2)) if *cut => "place: vowel third, onset",
-            (_, Some(2)) => "place: vowel third, no onset",
-            (_, Some(3)) if *cut => "place: vowel fourth, onset",
-            (_, Some(3)) => "place: vowel fourth, no onset",
-            _ => "place: vowel later still",
-        });
-        if let (true, true, Some(n @ (2 | 3))) = (seen, *cut, next_vowel) {
-            let in_no_table = |p: &&str| phoneset::phone_id(p).is_none();
-            if rest[0] != "pau" && rest[..n].iter().any(in_no_table) {
-                rows.push("onset of phones that are in no table");
-            }
-        }
+        // the first that is so decides
+        rows.push(place(rest, next_vowel, seen, *cut)[0]);
+        rows.extend(onset(rest, next_vowel.filter(|_| seen && *cut)));
         seen &= !cut;
     }
     rows
 }
 
 rows! { ROWS:
+    /// What may decide a place, in 01's order.
+    place(rest: &[&str], next_vowel: Option<usize>, seen: bool, cut: bool) {
+        let (next, vowel) = (rest.first(), next_vowel);
+    } [
+        "place: the last" => next.is_none(),
+        "place: next is pau" => next == Some(&"pau"),
+        "place: no vowel later" => vowel.is_none(),
+        "place: no vowel yet" => !seen,
+        "place: next is a vowel" => vowel == Some(0),
+        "place: next is ng" => next == Some(&"ng"),
+        "place: vowel second" => vowel == Some(1),
+        "place: vowel third, onset" => vowel == Some(2) && cut,
+        "place: vowel third, no onset" => vowel == Some(2),
+        "place: vowel fourth, onset" => vowel == Some(3) && cut,
+        "place: vowel fourth, no onset" => vowel == Some(3),
+        "place: vowel later still" => true,
+    ]
+
+    /// What an onset before a vowel has, if the place is a cut.
+    onset(rest: &[&str], next_vowel: Option<usize>) {
+        let phones = rest.get(..next_vowel.unwrap_or(0)).unwrap_or_default();
+        let is_onset = (2..=3).contains(&phones.len()) && phones[0] != "pau";
+    } [
+        "onset of phones that are in no table" =>
+            is_onset && phones.iter().any(|p| phoneset::phone_id(p).is_none()),
+    ]
+
     /// What the phones of an accepted list have.
     features(phones: &[&str]) {
         let stressed = |phone: &&str| {
