@@ -1,6 +1,8 @@
 //! Compares the proved library with the original Rust, call by call; see README.md.
 
 #[macro_use]
+mod each;
+#[macro_use]
 mod rows;
 #[macro_use]
 mod shrink;

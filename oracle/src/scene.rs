@@ -71,6 +71,11 @@ impl Scene {
         }
     }
 
+    /// A new lexicon beside a store.
+    pub fn of(lexicon: Lexicon, store: Vec<u8>) -> Rc<Scene> {
+        Rc::new(Scene::new(&Rc::new(lexicon), store))
+    }
+
     /// The same without the original, for a store that the library has made.
     pub fn alone(lexicon: &Rc<Lexicon>, store: Vec<u8>) -> Scene {
         Scene {

@@ -12,13 +12,7 @@ use rule::{added, refusal, refused_by_the_original};
 /// How many adds a lexicon and its store serve.
 const ADDS: usize = 60;
 
-#[derive(Clone)]
-pub struct Input {
-    pub scene: Rc<Scene>,
-    pub given: Add,
-}
-
-smaller!(Input: scene, given);
+input!(scene: Rc<Scene>, given: Add);
 
 #[derive(Default)]
 pub struct AddEntry {
@@ -50,10 +44,8 @@ impl Call for AddEntry {
 
     fn random(&mut self, random: &mut Random) -> Input {
         let Pool { scene, words } = self.pool.next(|| begin(random, &self.phones));
-        let mut input = Input {
-            given: given(random, scene, words, &self.phones),
-            scene: scene.clone(),
-        };
+        let given = given(random, scene, words, &self.phones);
+        let mut input = Input::new(scene.clone(), given);
         spoil(random, &mut input.given, &self.phones);
         let outcome = self.expected(&input).outcome;
         adding::go_on(&mut self.pool, outcome, 4);
@@ -136,10 +128,7 @@ impl AddEntry {
             }
             let rest = random.between(1, CELL - 1) * usize::from(random.once_in(12));
             given.phones.rest = vec![random.byte(); rest];
-            let input = Input {
-                scene: scene.clone(),
-                given,
-            };
+            let input = Input::new(scene.clone(), given);
             if refusal(&input, &mut Met::default()).is_ok() {
                 return input;
             }

@@ -14,14 +14,7 @@ const WORDS: usize = 40;
 /// The most phones that 01 lets be answered.
 pub const LONGEST: usize = 96;
 
-#[derive(Clone)]
-pub struct Input {
-    scene: Rc<Scene>,
-    wanted: Wanted,
-    room: Room,
-}
-
-smaller!(Input: scene, wanted, room);
+input!(scene: Rc<Scene>, wanted: Wanted, room: Room);
 
 #[derive(Default)]
 pub struct Lookup {
@@ -70,19 +63,12 @@ impl Call for Lookup {
             true => words::random(random, b"abAB'_"),
             false => words::near(random, words),
         };
-        Input {
-            scene,
-            wanted: Wanted::new(word, words::tag(random)),
-            room: Room::random(random, 40),
-        }
+        let wanted = Wanted::new(word, words::tag(random));
+        Input::new(scene, wanted, Room::random(random, 40))
     }
 
     fn rule(&self, input: &Input, met: &mut Met) -> Ruling {
-        let Input {
-            scene,
-            wanted,
-            room,
-        } = input;
+        let (scene, wanted) = (&input.scene, &input.wanted);
         let found = rule(scene, wanted, met)?;
         let (kind, phones) = match &found {
             Some((source, phones)) => (*source as u32, cells(phones)),
@@ -101,7 +87,7 @@ impl Call for Lookup {
         let count = phones.len() / CELL;
         if count > LONGEST {
             *met = Met::default();
-            met.add("7 before 9", room.bytes(phones.len()).len() < phones.len());
+            met.add("7 before 9", input.room.bytes(phones.len()).len() < phones.len());
             return Err(Stop::RefusedBeside(7, phones.len()));
         }
         met.shared(wanted.met());
@@ -151,18 +137,15 @@ impl Call for Lookup {
 /// An accepted input on this scene; most find something.
 fn to_record(random: &mut Random, scene: &Rc<Scene>, words: &[Vec<u8>]) -> Input {
     loop {
-        let input = Input {
-            scene: scene.clone(),
-            wanted: Wanted::new(words::near(random, words), words::tag(random)),
-            room: Room::to_record(random, 40),
-        };
-        let fits = match rule(scene, &input.wanted, &mut Met::default()) {
+        let wanted = Wanted::new(words::near(random, words), words::tag(random));
+        let room = Room::to_record(random, 40);
+        let fits = match rule(scene, &wanted, &mut Met::default()) {
             Ok(Some((_, phones))) => phones.len() <= LONGEST,
             Ok(None) => random.once_in(3),
             Err(_) => false,
         };
         if fits {
-            return input;
+            return Input::new(scene.clone(), wanted, room);
         }
     }
 }

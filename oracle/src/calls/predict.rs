@@ -8,14 +8,7 @@ const WORDS: usize = 40;
 /// The letters of the short words.
 const SHORT: &[u8] = b"abzA#'0-";
 
-#[derive(Clone)]
-pub struct Input {
-    trees: Rc<Trees>,
-    word: Vec<u8>,
-    room: Room,
-}
-
-smaller!(Input: word, word by plainer, room, trees);
+input!(word: Vec<u8> => fewer_or_plainer, room: Room, trees: Rc<Trees>);
 
 #[derive(Default)]
 pub struct Predict {
@@ -74,11 +67,7 @@ impl Call for Predict {
         if trees.nodes() > 10_000 {
             word.truncate(3);
         }
-        Input {
-            trees,
-            word,
-            room: Room::random(random, 40),
-        }
+        Input::new(word, Room::random(random, 40), trees)
     }
 
     fn rule(&self, input: &Input, met: &mut Met) -> Ruling {
@@ -111,11 +100,8 @@ impl Call for Predict {
             for i in 0..cases.div_ceil(sets) {
                 // the edges on a few sets only
                 let edge = set % 5 == 4;
-                let input = Input {
-                    trees: trees.clone(),
-                    word: words::to_record(random, &trees.alphabet, edge.then_some(i)),
-                    room: Room::to_record(random, 40),
-                };
+                let word = words::to_record(random, &trees.alphabet, edge.then_some(i));
+                let input = Input::new(word, Room::to_record(random, 40), trees.clone());
                 lines.push(whole_case(self, &input, &named(0..3)));
             }
         }
@@ -124,11 +110,7 @@ impl Call for Predict {
 }
 
 fn input(trees: &Rc<Trees>, word: impl Into<Vec<u8>>, size: Size) -> Input {
-    Input {
-        trees: trees.clone(),
-        word: word.into(),
-        room: Room::of(size),
-    }
+    Input::new(word.into(), Room::of(size), trees.clone())
 }
 
 /// The refusal that 01 gives before an output matters, if it gives one. Tells what the walks met.
@@ -179,11 +161,11 @@ fn edges() -> Vec<Input> {
     inputs
 }
 
-/// Words with one letter made an "a".
-fn plainer(word: &[u8]) -> Vec<Vec<u8>> {
+/// Words with letters left out, or one letter made an "a".
+fn fewer_or_plainer(word: &Vec<u8>) -> Vec<Vec<u8>> {
     let others = (0..word.len()).filter(|i| word[*i] != b'a');
     let plain = |i: usize| [&word[..i], b"a", &word[i + 1..]].concat();
-    others.map(plain).collect()
+    word.smaller().into_iter().chain(others.map(plain)).collect()
 }
 
 rows! { ROWS:

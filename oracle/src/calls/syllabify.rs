@@ -5,13 +5,7 @@ use crate::prelude::*;
 /// The longest list that 01 accepts.
 const LONGEST: usize = 96;
 
-#[derive(Clone)]
-pub struct Input {
-    list: List,
-    room: Room,
-}
-
-smaller!(Input: list, room);
+input!(list: List, room: Room);
 
 #[derive(Default)]
 pub struct Syllabify {
@@ -62,10 +56,7 @@ impl Call for Syllabify {
             false => 0,
         };
         list.rest = random.bytes(rest);
-        Input {
-            list,
-            room: Room::random(random, 20),
-        }
+        Input::new(list, Room::random(random, 20))
     }
 
     fn rule(&self, input: &Input, met: &mut Met) -> Ruling {
@@ -151,14 +142,8 @@ impl Syllabify {
 }
 
 fn input<T: AsRef<[u8]>>(list: &[T], size: Size) -> Input {
-    Input {
-        list: List::of(list),
-        room: Room {
-            fill: 0x39,
-            step: 0,
-            ..Room::of(size)
-        },
-    }
+    let (fill, step) = (0x39, 0);
+    Input::new(List::of(list), Room { size, fill, step })
 }
 
 /// Lists at 01's limits, just past them, and 01's rehearsed ones.

@@ -17,13 +17,9 @@ pub fn input(
     tag: impl AsRef<[u8]>,
     phones: &[impl AsRef<[u8]>],
 ) -> Input {
-    Input {
-        scene: scene.clone(),
-        given: Add {
-            wanted: Wanted::new(word.as_ref(), tag.as_ref()),
-            phones: List::of(phones),
-        },
-    }
+    let wanted = Wanted::new(word.as_ref(), tag.as_ref());
+    let phones = List::of(phones);
+    Input::new(scene.clone(), Add { wanted, phones })
 }
 
 /// Every add over two words and some tags, on every store that up to three adds leave, with room and

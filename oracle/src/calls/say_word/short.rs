@@ -24,12 +24,8 @@ fn input(
     word: impl AsRef<[u8]>,
     tag: impl AsRef<[u8]>,
 ) -> Input {
-    Input {
-        scene: scene.clone(),
-        trees: trees.clone(),
-        sheet: sheet.to_vec(),
-        wanted: Wanted::new(word.as_ref(), tag.as_ref()),
-    }
+    let wanted = Wanted::new(word.as_ref(), tag.as_ref());
+    Input::new(sheet.to_vec(), scene.clone(), trees.clone(), wanted)
 }
 
 /// The good lexicon beside a store.
