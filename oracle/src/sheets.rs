@@ -167,109 +167,68 @@ checks! { pub UNSOUND:
     ]
 }
 
-/// An item before it is written.
-#[derive(Default)]
-struct Item<'a> {
-    kind: u8,
-    stress: u8,
-    next: usize,
-    children: &'a [usize],
-    parent: usize,
-    before: usize,
-    behind: usize,
-    text: &'a [u8],
-}
+/// A sheet as it is written.
+struct Written(Vec<u8>);
 
-impl Item<'_> {
-    fn put(&self, sheet: &mut [u8], at: usize) {
-        let item = &mut sheet[ITEM * at..][..ITEM];
-        item.fill(0);
-        item[0] = self.kind;
-        item[STRESS] = self.stress;
-        for (field, value) in [
-            (NEXT, self.next),
-            (FIRST, *self.children.first().unwrap_or(&0)),
-            (LAST, *self.children.last().unwrap_or(&0)),
-            (PARENT, self.parent),
-            (BEFORE, self.before),
-            (BEHIND, self.behind),
-        ] {
-            put(item, field, value);
-        }
-        item[LEN] = self.text.len() as u8;
-        item[TEXT..TEXT + self.text.len()].copy_from_slice(self.text);
+impl Written {
+    fn link(&mut self, item: usize, field: usize, to: usize) {
+        put(&mut self.0, ITEM * item + field, to);
     }
-}
 
-impl Placed {
-    /// The syllables' items, each with those of its phones.
-    fn below(&self) -> Vec<(usize, &[usize])> {
-        let mut rest = &self.items[1..];
-        let part = |syllable: &Syllable| {
-            let (own, behind) = rest.split_at(1 + syllable.phones.len());
-            rest = behind;
-            (own[0], &own[1..])
-        };
-        self.word.syllables.iter().map(part).collect()
+    /// An item without links.
+    fn item(&mut self, at: usize, kind: u8, stress: u8, text: &[u8]) {
+        let item = &mut self.0[ITEM * at..][..ITEM];
+        item.fill(0);
+        item[0] = kind;
+        item[STRESS] = stress;
+        item[LEN] = text.len() as u8;
+        item[TEXT..TEXT + text.len()].copy_from_slice(text);
+    }
+
+    /// The links between an item and its children.
+    fn children(&mut self, parent: usize, children: &[usize]) {
+        self.link(parent, FIRST, *children.first().unwrap_or(&0));
+        self.link(parent, LAST, *children.last().unwrap_or(&0));
+        for (i, child) in children.iter().enumerate() {
+            self.link(*child, PARENT, parent);
+            self.link(*child, NEXT, *children.get(i + 1).unwrap_or(&0));
+        }
     }
 }
 
 /// The sheet with these words in their items, which are 1 to so many. Every used item is written whole; the
 /// bytes behind stay as they are.
 pub fn write(sheet: &[u8], placed: &[Placed]) -> Vec<u8> {
-    let mut sheet = sheet.to_vec();
+    let mut sheet = Written(sheet.to_vec());
+    // item 0 stands before the first phone and behind the last
+    let mut ring = vec![0];
+    sheet.item(0, 0, 0, b"");
+    for Placed { word, items } in placed {
+        sheet.item(items[0], WORD, 0, &word.text);
+        let mut rest = &items[1..];
+        let mut syllables = vec![];
+        for Syllable { stress, phones } in &word.syllables {
+            let (own, behind) = rest.split_at(1 + phones.len());
+            rest = behind;
+            sheet.item(own[0], SYLLABLE, *stress, b"");
+            for (at, phone) in own[1..].iter().zip(phones) {
+                sheet.item(*at, PHONE, 0, phone);
+            }
+            sheet.children(own[0], &own[1..]);
+            syllables.push(own[0]);
+            ring.extend(&own[1..]);
+        }
+        sheet.children(items[0], &syllables);
+    }
     let words: Vec<usize> = placed.iter().map(|placed| placed.items[0]).collect();
-    let below: Vec<Vec<(usize, &[usize])>> = placed.iter().map(Placed::below).collect();
-    let phones: Vec<usize> = (below.iter().flatten())
-        .flat_map(|(_, phones)| phones.iter().copied())
-        .collect();
-    let at = |list: &[usize], i: usize| *list.get(i).unwrap_or(&0);
-    Item {
-        children: &words,
-        parent: used(placed),
-        before: *phones.last().unwrap_or(&0),
-        behind: at(&phones, 0),
-        ..Item::default()
+    sheet.children(0, &words);
+    sheet.link(0, USED, used(placed));
+    ring.push(0);
+    for pair in ring.windows(2) {
+        sheet.link(pair[0], BEHIND, pair[1]);
+        sheet.link(pair[1], BEFORE, pair[0]);
     }
-    .put(&mut sheet, 0);
-    // how many phones were written before
-    let mut done = 0;
-    for (i, (placed, below)) in placed.iter().zip(&below).enumerate() {
-        let syllables: Vec<usize> = below.iter().map(|(syllable, _)| *syllable).collect();
-        Item {
-            kind: WORD,
-            next: at(&words, i + 1),
-            children: &syllables,
-            text: &placed.word.text,
-            ..Item::default()
-        }
-        .put(&mut sheet, words[i]);
-        for (j, (syllable, own)) in placed.word.syllables.iter().zip(below).enumerate() {
-            Item {
-                kind: SYLLABLE,
-                stress: syllable.stress,
-                next: at(&syllables, j + 1),
-                children: own.1,
-                parent: words[i],
-                ..Item::default()
-            }
-            .put(&mut sheet, own.0);
-            for (k, text) in syllable.phones.iter().enumerate() {
-                Item {
-                    kind: PHONE,
-                    next: at(own.1, k + 1),
-                    parent: own.0,
-                    before: if done == 0 { 0 } else { phones[done - 1] },
-                    behind: at(&phones, done + 1),
-                    text,
-                    ..Item::default()
-                }
-                .put(&mut sheet, own.1[k]);
-                done += 1;
-            }
-        }
-    }
-    sheet
+    sheet.0
 }
 
 /// The sheet with one more word, whose items are the next ones in their order. The driver checks itself: its
@@ -286,13 +245,13 @@ pub fn with_word(sheet: &[u8], before: &[Placed], word: &Word) -> Vec<u8> {
         read(&after).as_ref() == Ok(&words),
         "the driver does not read what it wrote"
     );
-    let ends = |list: &[Placed]| {
-        let word = list.last().map_or(0, |placed| placed.items[0]);
-        let phones = list.iter().flat_map(Placed::below);
-        let phone = phones.last().map_or(0, |(_, own)| own[own.len() - 1]);
-        (word, phone)
-    };
-    let (last_word, last_phone) = ends(before);
+    let last_word = before.last().map_or(0, |placed| placed.items[0]);
+    // a word that has phones ends with one
+    let spoken = |placed: &&Placed| placed.items.len() > 1;
+    let last_phone = before
+        .iter()
+        .rfind(spoken)
+        .map_or(0, |placed| placed.items[placed.items.len() - 1]);
     let touched = |at: usize| match (at / ITEM, at % ITEM) {
         (0, field) => (FIRST..LINKS_END).contains(&field),
         (item, _) if item > used => item <= used + word.items(),
