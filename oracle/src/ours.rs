@@ -1,6 +1,7 @@
 //! The proved library, through its C interface: a slice is a pointer and a length.
 
 use crate::lent::Lent;
+use std::fmt;
 
 #[repr(C)]
 #[derive(Clone, Copy, PartialEq, Eq)]
@@ -28,6 +29,24 @@ impl Answer {
         Answer {
             refusal,
             ..Answer::accepted(0, line)
+        }
+    }
+}
+
+/// All numbers; the last two, which no call tells, where they are told.
+impl fmt::Display for Answer {
+    fn fmt(&self, f: &mut fmt::Formatter) -> fmt::Result {
+        let Answer {
+            refusal,
+            kind,
+            value,
+            second,
+            third,
+        } = self;
+        write!(f, "refusal {refusal} kind {kind} value {value}")?;
+        match (second, third) {
+            (0, 0) => Ok(()),
+            _ => write!(f, ", second {second}, third {third}"),
         }
     }
 }
