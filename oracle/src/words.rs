@@ -197,6 +197,16 @@ pub fn edges() -> Vec<Vec<u8>> {
     words
 }
 
+/// Words at 01's limits without a tag, and some words with tags at them.
+pub fn limits(words: &[&str]) -> Vec<Wanted> {
+    let without = edges().into_iter().map(|word| Wanted::new(word, ""));
+    let with = each! {
+        for tag in tags();
+        words.iter().map(|word| Wanted::new(*word, &tag[..]))
+    };
+    without.chain(with).collect()
+}
+
 rows! { pub WORD:
     /// What a word has.
     of_word(word: &[u8]) [
