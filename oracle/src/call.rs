@@ -1,12 +1,7 @@
 //! What every call of the comparison has: its inputs, its rule, what the library is lent, and smaller inputs.
 
-use crate::cells::CELL;
-use crate::lent::{Lent, Part};
-use crate::notation;
-use crate::ours::{Answer, Function};
-use crate::random::Random;
-use crate::rows::Met;
-use crate::shrink::Shrink;
+use crate::lent::Lent;
+use crate::prelude::*;
 use std::panic::{catch_unwind, AssertUnwindSafe};
 use std::sync::atomic::{AtomicBool, Ordering};
 

@@ -1,8 +1,8 @@
 //! Lexicons for the short inputs: every small one, and sections at 01's limits and just past them.
 
-use crate::lexicons::{index, sections, Lexicon, Row, Sections};
+use crate::lexicons::{index, sections, Row, Sections};
+use crate::prelude::*;
 use crate::tables::{self, phone_table};
-use std::rc::Rc;
 
 /// An entry of these parts.
 pub fn row(word: &str, tag: u8, numbers: &[u8]) -> Row {

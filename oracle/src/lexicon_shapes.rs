@@ -21,13 +21,7 @@ pub fn whole(random: &mut Random, phones: &Phones) -> Shape {
 
 /// A whole lexicon of a size that a list can hold.
 pub fn to_record(random: &mut Random, phones: &Phones) -> Shape {
-    loop {
-        let shape = plan(random, phones, 60);
-        let Sections { index, data, .. } = &shape.lexicon.sections;
-        if index.len() > 20 && data.len() < 2_000 {
-            return shape;
-        }
-    }
+    plan_below(random, phones, 60, usize::MAX, 2_000)
 }
 
 /// A whole lexicon of a few entries.
@@ -37,14 +31,22 @@ pub fn few(random: &mut Random, phones: &Phones) -> Shape {
 
 /// A whole lexicon of a few entries, so that a list can hold many of them.
 pub fn few_to_record(random: &mut Random, phones: &Phones) -> Shape {
+    plan_below(random, phones, 14, 400, 400)
+}
+
+/// A whole lexicon of at least five entries, whose phone table and data are shorter than this.
+fn plan_below(
+    random: &mut Random,
+    phones: &Phones,
+    most: usize,
+    table: usize,
+    data: usize,
+) -> Shape {
     loop {
-        let shape = few(random, phones);
-        let Sections {
-            phones,
-            index,
-            data,
-        } = &shape.lexicon.sections;
-        if index.len() > 20 && data.len() < 400 && phones.len() < 400 {
+        let shape = plan(random, phones, most);
+        let sections = &shape.lexicon.sections;
+        let fits = sections.phones.len() < table && sections.data.len() < data;
+        if fits && sections.index.len() > 20 {
             return shape;
         }
     }

@@ -1,11 +1,8 @@
 //! The sections of the lexicon: their form by 01, what the search reads, and the original's reading.
 
 use crate::forever::{hold, Held};
-use crate::lent::Part;
-use crate::notation::Form;
+use crate::prelude::*;
 use crate::tables::{phone_names, phone_table};
-use original::{lexicon, phoneset};
-use std::rc::Rc;
 
 /// The three sections as bytes.
 #[derive(Clone, PartialEq)]

@@ -1,8 +1,6 @@
 //! Phones and phone lists, made from the original's own tables.
 
-use crate::random::Random;
-use crate::words;
-use original::{lexicon, phoneset};
+use crate::prelude::*;
 
 pub struct Phones {
     pub names: Vec<&'static str>,

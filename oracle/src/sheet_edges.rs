@@ -1,7 +1,7 @@
 //! Sheets for the short inputs: every small one, and sheets at 01's limits and just past them.
 
-use crate::records;
-use crate::sheets::{self, Placed, ITEM, LARGEST};
+use crate::prelude::*;
+use crate::sheets::{Placed, LARGEST};
 use crate::spoken::{Syllable, Word};
 
 /// A word, and its syllables, each as its stress and its phones parted by blanks.

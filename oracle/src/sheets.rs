@@ -1,8 +1,8 @@
 //! The sheet: 01's layout, read and written by the driver itself.
 
+use crate::prelude::*;
 use crate::records::{number, put, zeros};
 use crate::spoken::{Syllable, Word};
-use crate::words;
 
 /// Bytes of an item.
 pub const ITEM: usize = 64;

@@ -1,8 +1,7 @@
 //! The store: 01's layout, read and written by the driver itself.
 
-use crate::cells::{cell, CELL};
+use crate::prelude::*;
 use crate::records::{number, put, zeros};
-use crate::words;
 
 /// Bytes of a slot.
 pub const SLOT: usize = 512;
@@ -31,8 +30,8 @@ pub struct Entry {
 }
 
 impl Entry {
-    pub fn key(&self) -> (&[u8], u8) {
-        (&self.word, self.tag)
+    pub fn key(&self) -> Key {
+        (self.word.clone(), self.tag)
     }
 }
 

@@ -1,8 +1,7 @@
 //! The sections of the letter trees: their form by 01, the walk that tells damage, and the original's reading.
 
 use crate::forever::{hold, Held};
-use crate::lent::Part;
-use crate::notation::Form;
+use crate::prelude::*;
 use crate::records::number;
 use crate::tables::phone_names;
 use original::lexicon::Lts;

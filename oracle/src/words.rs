@@ -1,8 +1,6 @@
 //! Words: over an alphabet, of every length; and their tags.
 
-use crate::lent::Part;
-use crate::notation::Form;
-use crate::random::Random;
+use crate::prelude::*;
 
 /// The longest word that 01 accepts.
 pub const LONGEST: usize = 47;

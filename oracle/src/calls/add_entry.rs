@@ -67,8 +67,7 @@ impl Call for AddEntry {
         let (list, store) = added(input)?;
         let key = key(&given.wanted.word, &given.wanted.tag);
         let before = scene.entries();
-        let same = |entry: &Entry| entry.key() == (&key.0[..], key.1);
-        let row = match before.iter().position(|placed| same(&placed.entry)) {
+        let row = match before.iter().position(|placed| placed.entry.key() == key) {
             None => {
                 met.all(rule::of_new(scene, &key.0, list.len()));
                 "new key"
@@ -95,19 +94,16 @@ impl Call for AddEntry {
 
     fn record(&self, random: &mut Random, cases: usize) -> Vec<String> {
         let sets = 30;
-        let mut lines = vec![];
-        for set in 0..sets {
+        record::sets("runtime entries", sets, |set| {
             let lexicon = Rc::new(table_to_record(random, &self.phones));
             let words: Vec<Vec<u8>> = (0..4).map(|_| short_word(random)).collect();
             // a store that fills at once, some that fill soon, and one that has room for all
             let slots = [2, 3, 4, 5, 5, 6, 6, 7, 8, 15][set % 10];
             let store = stores::new(slots, random.byte());
-            lines.push(format!("# runtime entries {} of {sets}", set + 1));
             let made = |scene: &Rc<Scene>| self.to_record(random, scene, &words);
             let scene = Rc::new(Scene::new(&lexicon, store));
-            lines.extend(adding::record(self, scene, cases.div_ceil(sets), made));
-        }
-        lines
+            adding::record(self, scene, cases.div_ceil(sets), made)
+        })
     }
 }
 

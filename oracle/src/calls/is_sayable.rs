@@ -59,11 +59,9 @@ impl Call for IsSayable {
 
     fn record(&self, random: &mut Random, cases: usize) -> Vec<String> {
         let sets = 8;
-        let mut lines = vec![];
-        for set in 0..sets {
+        record::sets("sayable machines", sets, |set| {
             let machines = Rc::new(machines::to_record(random));
-            lines.push(format!("# sayable machines {} of {sets}", set + 1));
-            lines.extend(registers(3, &machines.parts()));
+            let mut lines = registers(3, &machines.parts());
             for i in 0..cases.div_ceil(sets) {
                 // the edges on a few sets only
                 let edge = set % 4 == 0;
@@ -71,8 +69,8 @@ impl Call for IsSayable {
                 let input = Input::new(word, machines.clone());
                 lines.push(whole_case(self, &input, &named([3, 4])));
             }
-        }
-        lines
+            lines
+        })
     }
 }
 

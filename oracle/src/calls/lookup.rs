@@ -115,11 +115,10 @@ impl Call for Lookup {
         lines.push(store(&fixed[0].scene));
         let known = fixed.len();
         lines.extend(fixed.iter().map(recorded));
-        for set in 0..sets {
+        lines.extend(record::sets("lexicon", sets, |_| {
             let shape = lexicon_shapes::to_record(random, &self.phones);
             let lexicon = Rc::new(shape.lexicon);
-            lines.push(format!("# lexicon {} of {sets}", set + 1));
-            lines.extend(registers(0, &lexicon.sections.parts()));
+            let mut lines = registers(0, &lexicon.sections.parts());
             for _ in 0..stores {
                 let scene = store_to_record(random, &lexicon, &shape.words, &self.phones);
                 lines.push(store(&scene));
@@ -129,7 +128,8 @@ impl Call for Lookup {
                     lines.push(recorded(&to_record(random, &scene, &words)));
                 }
             }
-        }
+            lines
+        }));
         lines
     }
 }

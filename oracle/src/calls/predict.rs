@@ -92,11 +92,9 @@ impl Call for Predict {
 
     fn record(&self, random: &mut Random, cases: usize) -> Vec<String> {
         let sets = 12;
-        let mut lines = vec![];
-        for set in 0..sets {
+        record::sets("letter trees", sets, |set| {
             let trees = Rc::new(tree_shapes::to_record(random, set));
-            lines.push(format!("# letter trees {} of {sets}", set + 1));
-            lines.extend(registers(0, &trees.sections.parts()));
+            let mut lines = registers(0, &trees.sections.parts());
             for i in 0..cases.div_ceil(sets) {
                 // the edges on a few sets only
                 let edge = set % 5 == 4;
@@ -104,8 +102,8 @@ impl Call for Predict {
                 let input = Input::new(word, Room::to_record(random, 40), trees.clone());
                 lines.push(whole_case(self, &input, &named(0..3)));
             }
-        }
-        lines
+            lines
+        })
     }
 }
 

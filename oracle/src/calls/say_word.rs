@@ -134,13 +134,11 @@ impl Call for SayWord {
 
     fn record(&self, random: &mut Random, cases: usize) -> Vec<String> {
         let sets = 20;
-        let mut lines = vec![];
-        for set in 0..sets {
+        record::sets("sections", sets, |set| {
             let shape = lexicon_shapes::few_to_record(random, &self.phones);
             let lexicon = Rc::new(shape.lexicon);
             let trees = Rc::new(tree_shapes::few_to_record(random, set));
-            lines.push(format!("# sections {} of {sets}", set + 1));
-            lines.extend(registers(0, &lexicon.sections.parts()));
+            let mut lines = registers(0, &lexicon.sections.parts());
             lines.extend(registers(3, &trees.sections.parts()));
             let mut left = cases.div_ceil(sets);
             while left > 0 {
@@ -152,8 +150,8 @@ impl Call for SayWord {
                 left -= utterance.len();
                 lines.extend(self.recorded(random, &utterance));
             }
-        }
-        lines
+            lines
+        })
     }
 }
 
