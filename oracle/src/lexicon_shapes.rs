@@ -247,14 +247,8 @@ fn break_one(random: &mut Random, sections: &mut Sections, lexicon: &Lexicon) {
             }
         }
         _ => {
-            for _ in 0..random.between(1, 6) {
-                let byte = [random.byte()];
-                match random.below(4) {
-                    0 => put(phones, random.below(600), &byte),
-                    1 => put(index, random.below(4 * entries + 4), &byte),
-                    _ => put(data, random.below(len + 1), &byte),
-                }
-            }
+            let index = (1, index, 4 * entries + 4);
+            tables::alter(random, [(1, phones, 600), index, (2, data, len + 1)]);
         }
     }
 }

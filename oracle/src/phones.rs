@@ -13,6 +13,9 @@ pub struct Phones {
 const ODD: &str =
     " zz ae1 ax0 ae2 t0 pau0 pau1 ng1 AE Ax PAU NG st sk a e au pa n hh0 axrr abcdefghijklmno a-b";
 
+/// The lists that 01 rehearses, parted by commas; the first is the empty one.
+pub const REHEARSED: &str = ",k ae t,eh k s t r ax,s ih ng er,s t,t pau aa,ae t h r ax,ae t l ax";
+
 fn odd() -> Vec<&'static str> {
     ODD.split(' ').collect()
 }

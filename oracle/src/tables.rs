@@ -83,6 +83,16 @@ pub fn break_form(random: &mut Random, table: &mut Vec<u8>, names: usize, way: u
     }
 }
 
+/// Alters a few bytes of sections, each of them as often as its weight says, within its first so many bytes.
+pub fn alter(random: &mut Random, mut sections: [(usize, &mut Vec<u8>, usize); 3]) {
+    for _ in 0..random.between(1, 6) {
+        let byte = [random.byte()];
+        let weights = sections.each_ref().map(|section| section.0);
+        let (_, section, len) = &mut sections[random.weighted(&weights)];
+        put(section, random.below(*len), &byte);
+    }
+}
+
 /// Writes bytes into a section, where it is long enough.
 pub fn put(section: &mut [u8], at: usize, bytes: &[u8]) {
     if let Some(place) = section.get_mut(at..at + bytes.len()) {

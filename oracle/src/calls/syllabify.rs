@@ -1,5 +1,6 @@
 //! syllabify: the marks after the phones of a list.
 
+use crate::phones::REHEARSED;
 use crate::prelude::*;
 
 /// The longest list that 01 accepts.
@@ -141,82 +142,54 @@ impl Syllabify {
     }
 }
 
-fn input<T: AsRef<[u8]>>(list: &[T], size: Size) -> Input {
+fn room(size: Size) -> Room {
     let (fill, step) = (0x39, 0);
-    Input::new(List::of(list), Room { size, fill, step })
+    Room { size, fill, step }
 }
+
+fn input<T: AsRef<[u8]>>(list: &[T], size: Size) -> Input {
+    Input::new(List::of(list), room(size))
+}
+
+/// A cell of a length byte, letters, and a last byte.
+fn odd(len: u8, last: u8) -> Cell {
+    let mut cell = [b'a'; CELL];
+    (cell[0], cell[CELL - 1]) = (len, last);
+    cell
+}
+
+/// Lists beside 01's rehearsed ones, parted by commas.
+const OTHERS: &str = "ae1 t ae1,ae st r ae,pau,pau pau,ng,ae ng,ae ng ae,ae s t r y ae";
 
 /// Lists at 01's limits, just past them, and 01's rehearsed ones.
 fn edges() -> Vec<Input> {
-    let rehearsed = [
-        "",
-        "k ae t",
-        "eh k s t r ax",
-        "s ih ng er",
-        "s t",
-        "t pau aa",
-        "ae t h r ax",
-        "ae t l ax",
-        "ae1 t ae1",
-        "ae st r ae",
-        "pau",
-        "pau pau",
-        "ng",
-        "ae ng",
-        "ae ng ae",
-        "ae s t r y ae",
-    ];
-    let mut inputs: Vec<Input> = vec![];
-    for list in rehearsed {
-        let list: Vec<&str> = list.split_whitespace().collect();
-        for size in [Size::Exact, Size::More(1), Size::More(200), Size::Short(1)] {
-            inputs.push(input(&list, size));
-        }
-    }
-    for len in [95, 96, 97, 98, 200] {
-        for phone in ["ae", "t", "pau", "", "abcdefghijklmno"] {
-            inputs.push(input(&vec![phone; len], Size::Exact));
-            inputs.push(input(&vec![phone; len], Size::Short(1)));
-        }
-    }
-    let plain = |cells: &[Cell]| {
-        let mut input = input::<&str>(&[], Size::Exact);
-        input.list.cells = cells.to_vec();
-        input
+    let rehearsed = each! {
+        for list in REHEARSED.split(',').chain(OTHERS.split(','));
+        let list = list.split_whitespace().collect::<Vec<_>>();
+        [Size::Exact, Size::More(1), Size::More(200), Size::Short(1)].map(|size| input(&list, size))
     };
-    let long = |len: u8, last: u8| {
-        let mut cell = cell(&[b'a'; 15]);
-        cell[0] = len;
-        cell[15] = last;
-        cell
+    let lengths = each! {
+        for len in [95, 96, 97, 98, 200];
+        for phone in ["ae", "t", "pau", "", "abcdefghijklmno"];
+        [Size::Exact, Size::Short(1)].map(|size| input(&vec![phone; len], size))
     };
-    for (len, last) in [
-        (15, b'a'),
-        (16, b'a'),
-        (255, b'a'),
-        (15, 127),
-        (15, 128),
-        (14, 128),
-        (16, 128),
-        (255, 255),
-        (2, 255),
-        (0, 255),
-    ] {
-        inputs.push(plain(&[long(len, last)]));
+    let long = [(15, b'a'), (16, b'a'), (255, b'a'), (15, 127), (15, 128)];
+    let longer = [(14, 128), (16, 128), (255, 255), (2, 255), (0, 255)];
+    let cells = each! {
+        for (len, last) in [long, longer].concat();
+        let odd = odd(len, last);
         // 3 and 7 look at every cell, also past the 96th
-        let mut cells = vec![cell(b"ae"); 97];
-        cells[96] = long(len, last);
-        inputs.push(plain(&cells));
-        inputs.push(plain(&cells[1..]));
-    }
-    for rest in [1, 15] {
-        for len in [0, 1, 96, 97] {
-            let mut input = input(&vec!["ae"; len], Size::Exact);
-            input.list.rest = vec![255; rest];
-            inputs.push(input);
-        }
-    }
-    inputs
+        for before in [0, 96, 95];
+        let cells = [vec![cell(b"ae"); before], vec![odd]].concat();
+        [Input::new(List { cells, rest: vec![] }, room(Size::Exact))]
+    };
+    let rests = each! {
+        for rest in [1, 15];
+        for len in [0, 1, 96, 97];
+        let (cells, rest) = (vec![cell(b"ae"); len], vec![255; rest]);
+        [Input::new(List { cells, rest }, room(Size::Exact))]
+    };
+    [rehearsed, lengths, cells, rests].concat()
 }
 
 /// The rule of 01 that decides each place, by the original's own marks.

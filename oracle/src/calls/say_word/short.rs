@@ -3,6 +3,7 @@
 use super::Input;
 use crate::lexicon_edges::row;
 use crate::lexicons::Row;
+use crate::phones::REHEARSED;
 use crate::prelude::*;
 use crate::sheet_edges::in_order;
 use crate::tree_edges::one_leaf;
@@ -69,17 +70,10 @@ fn short_lists() -> Vec<Input> {
         .map(|(i, numbers)| row(&format!("w{i:05}"), b'n', &numbers))
         .collect();
     let lexicon = Rc::new(Lexicon::of(&names, &rows));
-    let adds = [
-        ("m0", ""),
-        ("m1", "k ae t"),
-        ("m2", "eh k s t r ax"),
-        ("m3", "s ih ng er"),
-        ("m4", "s t"),
-        ("m5", "t pau aa"),
-        ("m6", "ae t h r ax"),
-        ("m7", "ae t l ax"),
-    ];
-    let adds = adds.map(|(word, phones)| store_edges::add(word, "", phones));
+    let rehearsed = REHEARSED.split(',').enumerate();
+    let adds: Vec<Add> = rehearsed
+        .map(|(i, phones)| store_edges::add(&format!("m{i}"), "", phones))
+        .collect();
     let empty = Scene::new(&lexicon, stores::new(adds.len() + 1, 0));
     let scene = empty.with_store(empty.grown(&adds));
     let trees = Rc::new(one_leaf(b"x"));
