@@ -17,24 +17,18 @@ pub fn row(word: &str, tag: u8, numbers: &[u8]) -> Row {
 /// entry may be damaged. The phone of an entry tells its place.
 pub fn small(most: usize) -> Vec<Rc<Lexicon>> {
     let names = ["p0", "p1", "p2", "p3", "p4"];
-    let mut all = vec![];
-    for count in 0..=most {
-        for choice in 0..7_usize.pow(count as u32) {
-            let kind = |i: usize| choice / 7_usize.pow(i as u32) % 7;
-            let made = |i: usize| {
-                let word = ["a", "b"][kind(i) % 2];
-                row(word, b"0nvx"[kind(i) / 2], &[i as u8])
-            };
-            let rows: Vec<Row> = (0..count).map(made).collect();
-            let mut sections = sections(&names, &rows);
-            for i in (0..count).filter(|i| kind(*i) == 6) {
-                let outside = [200, 0, 0, 0];
-                sections.index[4 + 4 * i..8 + 4 * i].copy_from_slice(&outside);
-            }
-            all.push(Rc::new(Lexicon::new(sections)));
+    let made = |kinds: &Vec<usize>| {
+        let rows = (0..).zip(kinds);
+        let rows = rows.map(|(i, kind)| row(["a", "b"][kind % 2], b"0nvx"[kind / 2], &[i]));
+        let mut sections = sections(&names, &rows.collect::<Vec<Row>>());
+        for i in (0..kinds.len()).filter(|i| kinds[*i] == 6) {
+            let outside = [200, 0, 0, 0];
+            sections.index[4 + 4 * i..8 + 4 * i].copy_from_slice(&outside);
         }
-    }
-    all
+        Rc::new(Lexicon::new(sections))
+    };
+    let kinds = words::every(&[0, 1, 2, 3, 4, 5, 6], most);
+    kinds.iter().map(made).collect()
 }
 
 /// A small lexicon in good order.

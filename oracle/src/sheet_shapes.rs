@@ -156,16 +156,10 @@ pub fn smaller(sheet: &[u8]) -> Vec<Vec<u8>> {
         return records::plainer(sheet, ITEM, 24);
     };
     let from = sheets::unused(sheet);
-    let mut all = vec![];
     let whole = sheet.len() - sheet.len() % ITEM;
-    let lengths = [from, from + ITEM - 1, from + ITEM, whole];
-    let shorter = lengths.into_iter().filter(|len| *len < sheet.len());
-    all.extend(shorter.map(|len| sheet[..len].to_vec()));
-    if sheet.len() >= from + 2 * ITEM {
-        all.push(sheet[..sheet.len() - ITEM].to_vec());
-    }
-    let zeroed = records::zeroed(&sheet[from..]).into_iter();
-    all.extend(zeroed.map(|behind| [&sheet[..from], &behind].concat()));
+    let one_less = (sheet.len() - ITEM).max(from);
+    let lengths = [from, from + ITEM - 1, from + ITEM, whole, one_less];
+    let mut all = records::less_behind(sheet, from, &lengths);
     // the items of words that are left out become unused
     let rewritten = |words: &[Word]| sheets::write(sheet, &in_order(words));
     let words: Vec<Word> = placed.iter().map(|placed| placed.word.clone()).collect();

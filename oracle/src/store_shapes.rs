@@ -182,7 +182,6 @@ pub fn smaller(store: &[u8]) -> Vec<Vec<u8>> {
     let Ok(chain) = stores::read(store) else {
         return records::plainer(store, SLOT, 4);
     };
-    let mut all = vec![];
     let rewritten = |chain: &[Placed]| {
         let mut chain = chain.to_vec();
         // the slots stay in their order
@@ -193,16 +192,11 @@ pub fn smaller(store: &[u8]) -> Vec<Vec<u8>> {
         }
         stores::write(store, &chain)
     };
-    all.extend(chain.smaller().iter().map(|chain| rewritten(chain)));
+    let fewer = chain.smaller();
+    let mut all: Vec<Vec<u8>> = fewer.iter().map(|chain| rewritten(chain)).collect();
     let from = stores::unused(store);
-    for slots in [0, 1, 2] {
-        let len = from + SLOT * slots;
-        if len < store.len() {
-            all.push(store[..len].to_vec());
-        }
-    }
-    let zeroed = records::zeroed(&store[from..]).into_iter();
-    all.extend(zeroed.map(|behind| [&store[..from], &behind].concat()));
+    let lengths = [from, from + SLOT, from + 2 * SLOT];
+    all.extend(records::less_behind(store, from, &lengths));
     let mut ordered = chain.clone();
     for (slot, placed) in (1..).zip(&mut ordered) {
         placed.slot = slot;

@@ -43,14 +43,12 @@ impl Call for Predict {
             .collect();
         sets.push(Rc::new(tree_edges::one_leaf(b"x-y-z")));
         sets.push(Rc::new(tree_edges::one_leaf(b"-")));
-        let mut inputs = vec![];
-        for (i, trees) in sets.iter().enumerate() {
-            for word in words::every(SHORT, 3).into_iter().chain(words::edges()) {
-                inputs.push(input(trees, word, Size::More(i % 3)));
-            }
-        }
-        inputs.extend(edges());
-        inputs
+        let short = each! {
+            for (i, trees) in sets.iter().enumerate();
+            for word in words::every(SHORT, 3).into_iter().chain(words::edges());
+            [input(trees, word, Size::More(i % 3))]
+        };
+        [short, edges()].concat()
     }
 
     fn random(&mut self, random: &mut Random) -> Input {
@@ -138,25 +136,24 @@ pub fn refusal(trees: &Trees, given: &[u8], met: &mut Met) -> Result<(), u32> {
 
 /// Words on sections at 01's limits.
 fn edges() -> Vec<Input> {
-    let mut inputs = vec![];
-    for trees in &tree_edges::limits() {
-        for word in ["", "a#", "7", "a", "ab", "ba", "aab"] {
-            for size in [Size::Exact, Size::More(1), Size::Short(1), Size::Short(16)] {
-                inputs.push(input(trees, word, size));
-            }
-        }
-        // a lower refusal goes before a higher one
-        inputs.push(input(trees, vec![b'a'; 48], Size::Short(1)));
-        inputs.push(input(trees, vec![200], Size::More(3)));
-    }
+    let limits = tree_edges::limits();
+    let sizes = each! {
+        for trees in &limits;
+        for word in ["", "a#", "7", "a", "ab", "ba", "aab"];
+        [Size::Exact, Size::More(1), Size::Short(1), Size::Short(16)].map(|size| input(trees, word, size))
+    };
+    // a lower refusal goes before a higher one
+    let ranks = each! {
+        for trees in &limits;
+        [input(trees, [b'a'; 48], Size::Short(1)), input(trees, [200], Size::More(3))]
+    };
     let random = &mut Random::new(7, "deepest");
-    for leaves in [1, 2, 40] {
+    let deepest = each! {
+        for leaves in [1, 2, 40];
         let deepest = Rc::new(tree_shapes::deepest(random, leaves));
-        for letter in b'a'..=b'z' {
-            inputs.push(input(&deepest, vec![letter], Size::Exact));
-        }
-    }
-    inputs
+        (b'a'..=b'z').map(|letter| input(&deepest, [letter], Size::Exact))
+    };
+    [sizes, ranks, deepest].concat()
 }
 
 /// Words with letters left out, or one letter made an "a".
