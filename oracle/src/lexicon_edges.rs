@@ -2,6 +2,7 @@
 
 use crate::lexicons::{index, sections, Row, Sections};
 use crate::prelude::*;
+use crate::records::with_byte;
 use crate::tables::{self, phone_table};
 
 /// An entry of these parts.
@@ -62,27 +63,18 @@ pub fn large() -> [Rc<Lexicon>; 2] {
 
 /// The good lexicon with each of its bytes altered, and cut at each place of each section.
 pub fn altered_bytes() -> Vec<Rc<Lexicon>> {
-    let good = good();
     let parts: [fn(&mut Sections) -> &mut Vec<u8>; 3] =
         [|s| &mut s.phones, |s| &mut s.index, |s| &mut s.data];
-    let mut all = vec![];
-    for part in parts {
-        let len = part(&mut good.clone()).len();
-        for at in 0..len {
-            let byte = part(&mut good.clone())[at];
-            let values = [0, 1, 2, 3, 16, 65, 97, 98, 127, 128, 255];
-            let near = [byte ^ 1, byte.wrapping_add(1)];
-            for value in values.into_iter().chain(near) {
-                let mut sections = good.clone();
-                part(&mut sections)[at] = value;
-                all.push(sections);
-            }
-            let mut sections = good.clone();
-            part(&mut sections).truncate(at);
-            all.push(sections);
-        }
+    each! {
+        for part in parts;
+        let section = part(&mut good()).clone();
+        for (at, byte) in section.iter().enumerate();
+        let values = [0, 1, 2, 3, 16, 65, 97, 98, 127, 128, 255, byte ^ 1, byte.wrapping_add(1)];
+        let altered = values.map(|value| with_byte(&section, at, value));
+        let others = altered.into_iter().chain([section[..at].to_vec()]);
+        let changed = with(&good(), others, |sections, other| *part(sections) = other);
+        changed.into_iter().map(Lexicon::new).map(Rc::new)
     }
-    all.into_iter().map(Lexicon::new).map(Rc::new).collect()
 }
 
 /// Sections at 01's limits, and just past them.
