@@ -224,13 +224,10 @@ impl Lexicon {
     /// Where 01 says that a checked lexicon answers from: the first equal word with the exact tag, else
     /// the first equal word.
     pub fn direct(&self, word: &[u8], tag: u8) -> Option<usize> {
-        let entries = || (0..self.count()).filter_map(|i| Some((i, self.entry(i).ok()?)));
-        let mut equal = entries().filter(|(_, entry)| entry.word == word);
-        let first = equal.next()?;
-        let exact = std::iter::once(first)
-            .chain(equal)
-            .find(|(_, entry)| entry.tag == tag);
-        Some(exact.unwrap_or(first).0)
+        let entries = (0..self.count()).filter_map(|i| Some((i, self.entry(i).ok()?)));
+        let equal: Vec<_> = entries.filter(|(_, entry)| entry.word == word).collect();
+        let exact = equal.iter().find(|(_, entry)| entry.tag == tag);
+        exact.or(equal.first()).map(|(i, _)| *i)
     }
 }
 

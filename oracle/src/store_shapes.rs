@@ -65,6 +65,13 @@ pub fn add(
     }
 }
 
+/// An entry that can be added, of a size that a list can hold.
+pub fn few_phones(random: &mut Random, scene: &Scene, words: &[Vec<u8>], phones: &Phones) -> Add {
+    let mut add = add(random, scene, words, phones, false);
+    add.phones.cells.truncate(6);
+    add
+}
+
 /// So many phones that may be added.
 pub fn known(random: &mut Random, scene: &Scene, phones: &Phones, count: usize) -> Vec<Vec<u8>> {
     let table = scene.lexicon.names.as_deref().unwrap_or_default();

@@ -176,14 +176,9 @@ fn store_to_record(
 ) -> Rc<Scene> {
     let slots = random.between(1, 7);
     let adds = random.below(2 * slots);
-    let adds: Vec<Add> = (0..adds)
-        .map(|_| {
-            let scene = Scene::new(lexicon, stores::new(1, 0));
-            let mut add = store_shapes::add(random, &scene, words, phones, false);
-            add.phones.cells.truncate(6);
-            add
-        })
-        .collect();
+    let smallest = Scene::new(lexicon, stores::new(1, 0));
+    let add = |_| store_shapes::few_phones(random, &smallest, words, phones);
+    let adds: Vec<Add> = (0..adds).map(add).collect();
     let empty = Scene::new(lexicon, stores::new(slots, random.byte()));
     let store = empty.grown(&adds);
     empty.with_store(match random.once_in(3) {

@@ -210,8 +210,7 @@ impl SayWord {
         let count = random.between(1, most);
         while inputs.len() < count {
             if random.once_in(2) && stores::room(&scene.store) > 0 {
-                let mut add = store_shapes::add(random, &scene, words, &self.phones, false);
-                add.phones.cells.truncate(6);
+                let add = store_shapes::few_phones(random, &scene, words, &self.phones);
                 scene = scene.with_store(scene.grown(&[add]));
             }
             let entries = scene.entries();
