@@ -4,25 +4,7 @@ use crate::forever::{hold, Held};
 use crate::prelude::*;
 use crate::tables::{phone_names, phone_table};
 
-/// The three sections as bytes.
-#[derive(Clone, PartialEq)]
-pub struct Sections {
-    pub phones: Vec<u8>,
-    pub index: Vec<u8>,
-    pub data: Vec<u8>,
-}
-
-impl Sections {
-    pub fn parts(&self) -> [Part<'_>; 3] {
-        [
-            Part::read("lex.phones", Form::PhoneTable, &self.phones),
-            Part::read("lex.index", Form::Bytes, &self.index),
-            Part::read("lex.data", Form::Bytes, &self.data),
-        ]
-    }
-}
-
-smaller!(Sections: data, index, phones);
+sections!("lex": data);
 
 /// A compiled entry before it is written.
 #[derive(Clone)]

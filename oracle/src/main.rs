@@ -6,6 +6,8 @@ mod each;
 mod rows;
 #[macro_use]
 mod shrink;
+#[macro_use]
+mod tables;
 
 mod call;
 mod calls;
@@ -33,7 +35,6 @@ mod spoken;
 mod store_edges;
 mod store_shapes;
 mod stores;
-mod tables;
 mod tally;
 mod tree_edges;
 mod tree_shapes;

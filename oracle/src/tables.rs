@@ -2,6 +2,31 @@
 
 use crate::random::Random;
 
+/// Three sections as bytes: a phone table, an index, and what it leads to.
+macro_rules! sections {
+    ($front:literal: $data:ident) => {
+        #[derive(Clone, PartialEq)]
+        pub struct Sections {
+            pub phones: Vec<u8>,
+            pub index: Vec<u8>,
+            pub $data: Vec<u8>,
+        }
+
+        impl Sections {
+            pub fn parts(&self) -> [Part<'_>; 3] {
+                let data = concat!($front, ".", stringify!($data));
+                [
+                    Part::read(concat!($front, ".phones"), Form::PhoneTable, &self.phones),
+                    Part::read(concat!($front, ".index"), Form::Bytes, &self.index),
+                    Part::read(data, Form::Bytes, &self.$data),
+                ]
+            }
+        }
+
+        smaller!(Sections: $data, index, phones);
+    };
+}
+
 /// The strings of a phone table that has 01's form.
 pub fn phone_names(table: &[u8]) -> Option<Vec<Vec<u8>>> {
     let count = u32::from_le_bytes(table.get(..4)?.try_into().ok()?);
