@@ -7,16 +7,12 @@ mod library;
 mod measure;
 #[cfg(feature = "original")]
 mod original_side;
+#[allow(dead_code)]
+mod ours;
 mod rows;
 mod stage;
 mod tables;
 
-#[path = "../../oracle/src/cells.rs"]
-#[allow(dead_code)]
-mod cells;
-#[path = "../../oracle/src/ours.rs"]
-#[allow(dead_code)]
-mod ours;
 #[path = "../../oracle/src/random.rs"]
 #[allow(dead_code)]
 mod random;
