@@ -2,12 +2,12 @@
 
 #[cfg(feature = "original")]
 mod agreement;
-mod cells;
 mod count;
 mod library;
 mod measure;
 #[cfg(feature = "original")]
 mod original_side;
+#[allow(dead_code)]
 mod ours;
 mod rows;
 mod stage;

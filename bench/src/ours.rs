@@ -1,7 +1,6 @@
-//! The calls of the proved library that are timed, through its C interface: a slice is a pointer and a length.
+//! The proved library, through its C interface: a slice is a pointer and a length.
 
 #[repr(C)]
-#[derive(Clone, Copy)]
 pub struct Answer {
     pub refusal: u32,
     pub kind: u32,
@@ -10,35 +9,35 @@ pub struct Answer {
     pub third: u64,
 }
 
-/// Where a lent slice stands.
-trait Pointer {
-    fn pointer(&mut self) -> *const u8;
+/// A slice that a call is lent, to read or to write.
+trait Lent {
+    fn lent(self) -> (*mut u8, usize);
 }
 
-impl Pointer for &[u8] {
-    fn pointer(&mut self) -> *const u8 {
-        self.as_ptr()
+impl Lent for &[u8] {
+    fn lent(self) -> (*mut u8, usize) {
+        (self.as_ptr().cast_mut(), self.len())
     }
 }
 
-impl Pointer for &mut [u8] {
-    fn pointer(&mut self) -> *const u8 {
-        self.as_mut_ptr()
+impl Lent for &mut [u8] {
+    fn lent(self) -> (*mut u8, usize) {
+        (self.as_mut_ptr(), self.len())
     }
 }
 
-/// Functions of the library by their slices, each with a safe one over it.
+/// Functions of the library by their slices, those that are written with `mut`.
 macro_rules! library {
-    ($($name:ident = $function:ident($($slice:ident: $lent:ty),*);)*) => {
+    ($($name:ident = $function:ident($($slice:ident: $kind:ty),*);)*) => {
         #[link(name = "pronouncer", kind = "static")]
         extern "C" {
-            $(fn $function($($slice: *const u8, _: usize),*) -> Answer;)*
+            $(fn $function($($slice: *mut u8, _: usize),*) -> Answer;)*
         }
 
-        $(#[allow(clippy::too_many_arguments)]
-        pub fn $name($(mut $slice: $lent),*) -> Answer {
-            // SAFETY: each pointer and length is a whole slice, borrowed mutably where the call writes it.
-            unsafe { $function($($slice.pointer(), $slice.len()),*) }
+        $(pub fn $name($($slice: $kind),*) -> Answer {
+            $(let $slice = $slice.lent();)*
+            // SAFETY: each pointer and length is a whole slice; the library writes only what is lent with `mut`.
+            unsafe { $function($($slice.0, $slice.1),*) }
         })*
     };
 }
@@ -52,26 +51,33 @@ library! {
         phones: &[u8], index: &[u8], data: &[u8], store: &[u8], word: &[u8], tag: &[u8], out: &mut [u8]
     );
     new_store = pronouncer_new_store(store: &mut [u8]);
-    add_entry = pronouncer_add_entry(lex_phones: &[u8], store: &mut [u8], word: &[u8], tag: &[u8], phones: &[u8]);
+    add_entry = pronouncer_add_entry(table: &[u8], store: &mut [u8], word: &[u8], tag: &[u8], phones: &[u8]);
     new_sheet = pronouncer_new_sheet(sheet: &mut [u8]);
-    say_word_by = pronouncer_say_word(
+    say_word_in = pronouncer_say_word(
         lex_phones: &[u8], lex_index: &[u8], lex_data: &[u8], lts_phones: &[u8], lts_index: &[u8], lts_model: &[u8],
         store: &[u8], sheet: &mut [u8], word: &[u8], tag: &[u8]
     );
     phone_string = pronouncer_phone_string(sheet: &[u8], out: &mut [u8]);
 }
 
+/// Lookup in the three sections of a lexicon.
+#[inline]
 pub fn lookup(lex: [&[u8]; 3], store: &[u8], word: &[u8], tag: &[u8], out: &mut [u8]) -> Answer {
-    lookup_in(lex[0], lex[1], lex[2], store, word, tag, out)
+    let [phones, index, data] = lex;
+    lookup_in(phones, index, data, store, word, tag, out)
 }
 
+/// Say word by the sections of a lexicon and of letter trees.
+#[inline]
 pub fn say_word(
-    lex: [&[u8]; 3],
-    lts: [&[u8]; 3],
+    [lex_phones, lex_index, lex_data]: [&[u8]; 3],
+    [lts_phones, lts_index, lts_model]: [&[u8]; 3],
     store: &[u8],
     sheet: &mut [u8],
     word: &[u8],
     tag: &[u8],
 ) -> Answer {
-    say_word_by(lex[0], lex[1], lex[2], lts[0], lts[1], lts[2], store, sheet, word, tag)
+    say_word_in(
+        lex_phones, lex_index, lex_data, lts_phones, lts_index, lts_model, store, sheet, word, tag,
+    )
 }

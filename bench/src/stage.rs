@@ -1,6 +1,5 @@
 //! Stores and sheets that are empty, half-full and full, written by the library itself.
 
-use crate::cells::{cell, text, CELL};
 use crate::ours;
 use crate::tables::{Tables, Word};
 
@@ -8,6 +7,8 @@ use crate::tables::{Tables, Word};
 const LARGEST: usize = 65_536;
 const SLOT: usize = 512;
 const ITEM: usize = 64;
+/// Bytes of a phone in a list: its length, its text, zeros.
+const CELL: usize = 16;
 /// Room for the longest phone list.
 pub const LIST: usize = 96 * CELL;
 
@@ -32,6 +33,13 @@ pub fn cells(phones: &[String]) -> Vec<u8> {
     phones.iter().flat_map(|p| cell(p.as_bytes())).collect()
 }
 
+fn cell(text: &[u8]) -> [u8; CELL] {
+    let mut cell = [0; CELL];
+    cell[0] = text.len() as u8;
+    cell[1..=text.len()].copy_from_slice(text);
+    cell
+}
+
 /// The phones of a word: looked up with an empty store, else predicted.
 pub fn pronounced(tables: &Tables, word: &Word) -> Vec<String> {
     let mut out = [0; LIST];
@@ -48,9 +56,9 @@ pub fn pronounced(tables: &Tables, word: &Word) -> Vec<String> {
 
 /// The phones of a list of cells.
 pub fn phones_of(list: &[u8]) -> Vec<String> {
-    let phone = |bytes: &[u8]| {
-        let bytes: &[u8; CELL] = bytes.try_into().expect("a chunk is a cell");
-        String::from_utf8(text(bytes).to_vec()).expect("phones are ASCII")
+    let phone = |cell: &[u8]| {
+        let text = &cell[1..=usize::from(cell[0])];
+        String::from_utf8(text.to_vec()).expect("phones are ASCII")
     };
     list.chunks_exact(CELL).map(phone).collect()
 }

@@ -1,12 +1,7 @@
 //! What every call of the comparison has: its inputs, its rule, what the library is lent, and smaller inputs.
 
-use crate::cells::CELL;
-use crate::lent::{Lent, Part};
-use crate::notation;
-use crate::ours::{Answer, Function};
-use crate::random::Random;
-use crate::rows::Met;
-use crate::shrink::Shrink;
+use crate::lent::Lent;
+use crate::prelude::*;
 use std::panic::{catch_unwind, AssertUnwindSafe};
 use std::sync::atomic::{AtomicBool, Ordering};
 
@@ -242,6 +237,11 @@ fn output_row<C: Call>(need: usize, len: usize) -> &'static str {
         false if need == 0 && tells_none => OUTPUT_OR_NONE[0],
         false => OUTPUT[0],
     }
+}
+
+/// The row of a number, of rows of which each but the first starts at one of these.
+pub fn row_of(rows: Rows, starts: &[usize], number: usize) -> &'static str {
+    rows[starts.partition_point(|start| *start <= number)]
 }
 
 /// The row that counts an answer.

@@ -1,9 +1,6 @@
 //! Phones in cells of 16 bytes: a length byte, up to 15 bytes of text, zeros past the text.
 
-use crate::lent::Part;
-use crate::notation::Form;
-use crate::random::Random;
-use crate::shrink::Shrink;
+use crate::prelude::*;
 
 pub const CELL: usize = 16;
 pub type Cell = [u8; CELL];

@@ -1,8 +1,6 @@
 //! Bytes lent to the library, and how large an output is handed in.
 
-use crate::notation::Form;
-use crate::random::Random;
-use crate::shrink::{with, Shrink};
+use crate::prelude::*;
 use std::borrow::Cow;
 
 const GUARD: usize = 24;

@@ -1,8 +1,9 @@
 //! Lexicons for the short inputs: every small one, and sections at 01's limits and just past them.
 
-use crate::lexicons::{index, sections, Lexicon, Row, Sections};
+use crate::lexicons::{index, sections, Row, Sections};
+use crate::prelude::*;
+use crate::records::with_byte;
 use crate::tables::{self, phone_table};
-use std::rc::Rc;
 
 /// An entry of these parts.
 pub fn row(word: &str, tag: u8, numbers: &[u8]) -> Row {
@@ -17,24 +18,18 @@ pub fn row(word: &str, tag: u8, numbers: &[u8]) -> Row {
 /// entry may be damaged. The phone of an entry tells its place.
 pub fn small(most: usize) -> Vec<Rc<Lexicon>> {
     let names = ["p0", "p1", "p2", "p3", "p4"];
-    let mut all = vec![];
-    for count in 0..=most {
-        for choice in 0..7_usize.pow(count as u32) {
-            let kind = |i: usize| choice / 7_usize.pow(i as u32) % 7;
-            let made = |i: usize| {
-                let word = ["a", "b"][kind(i) % 2];
-                row(word, b"0nvx"[kind(i) / 2], &[i as u8])
-            };
-            let rows: Vec<Row> = (0..count).map(made).collect();
-            let mut sections = sections(&names, &rows);
-            for i in (0..count).filter(|i| kind(*i) == 6) {
-                let outside = [200, 0, 0, 0];
-                sections.index[4 + 4 * i..8 + 4 * i].copy_from_slice(&outside);
-            }
-            all.push(Rc::new(Lexicon::new(sections)));
+    let made = |kinds: &Vec<usize>| {
+        let rows = (0..).zip(kinds);
+        let rows = rows.map(|(i, kind)| row(["a", "b"][kind % 2], b"0nvx"[kind / 2], &[i]));
+        let mut sections = sections(&names, &rows.collect::<Vec<Row>>());
+        for i in (0..kinds.len()).filter(|i| kinds[*i] == 6) {
+            let outside = [200, 0, 0, 0];
+            sections.index[4 + 4 * i..8 + 4 * i].copy_from_slice(&outside);
         }
-    }
-    all
+        Rc::new(Lexicon::new(sections))
+    };
+    let kinds = words::every(&[0, 1, 2, 3, 4, 5, 6], most);
+    kinds.iter().map(made).collect()
 }
 
 /// A small lexicon in good order.
@@ -68,27 +63,18 @@ pub fn large() -> [Rc<Lexicon>; 2] {
 
 /// The good lexicon with each of its bytes altered, and cut at each place of each section.
 pub fn altered_bytes() -> Vec<Rc<Lexicon>> {
-    let good = good();
     let parts: [fn(&mut Sections) -> &mut Vec<u8>; 3] =
         [|s| &mut s.phones, |s| &mut s.index, |s| &mut s.data];
-    let mut all = vec![];
-    for part in parts {
-        let len = part(&mut good.clone()).len();
-        for at in 0..len {
-            let byte = part(&mut good.clone())[at];
-            let values = [0, 1, 2, 3, 16, 65, 97, 98, 127, 128, 255];
-            let near = [byte ^ 1, byte.wrapping_add(1)];
-            for value in values.into_iter().chain(near) {
-                let mut sections = good.clone();
-                part(&mut sections)[at] = value;
-                all.push(sections);
-            }
-            let mut sections = good.clone();
-            part(&mut sections).truncate(at);
-            all.push(sections);
-        }
+    each! {
+        for part in parts;
+        let section = part(&mut good()).clone();
+        for (at, byte) in section.iter().enumerate();
+        let values = [0, 1, 2, 3, 16, 65, 97, 98, 127, 128, 255, byte ^ 1, byte.wrapping_add(1)];
+        let altered = values.map(|value| with_byte(&section, at, value));
+        let others = altered.into_iter().chain([section[..at].to_vec()]);
+        let changed = with(&good(), others, |sections, other| *part(sections) = other);
+        changed.into_iter().map(Lexicon::new).map(Rc::new)
     }
-    all.into_iter().map(Lexicon::new).map(Rc::new).collect()
 }
 
 /// Sections at 01's limits, and just past them.

@@ -15,24 +15,13 @@ pub struct Shape {
 
 /// A whole lexicon, sorted or not.
 pub fn whole(random: &mut Random, phones: &Phones) -> Shape {
-    let most = match random.weighted(&[60, 30, 4, 1]) {
-        0 => 12,
-        1 => 100,
-        2 => 800,
-        _ => 3_000,
-    };
+    let most = [12, 100, 800, 3_000][random.weighted(&[60, 30, 4, 1])];
     plan(random, phones, most)
 }
 
 /// A whole lexicon of a size that a list can hold.
 pub fn to_record(random: &mut Random, phones: &Phones) -> Shape {
-    loop {
-        let shape = plan(random, phones, 60);
-        let Sections { index, data, .. } = &shape.lexicon.sections;
-        if index.len() > 20 && data.len() < 2_000 {
-            return shape;
-        }
-    }
+    plan_below(random, phones, 60, usize::MAX, 2_000)
 }
 
 /// A whole lexicon of a few entries.
@@ -42,14 +31,22 @@ pub fn few(random: &mut Random, phones: &Phones) -> Shape {
 
 /// A whole lexicon of a few entries, so that a list can hold many of them.
 pub fn few_to_record(random: &mut Random, phones: &Phones) -> Shape {
+    plan_below(random, phones, 14, 400, 400)
+}
+
+/// A whole lexicon of at least five entries, whose phone table and data are shorter than this.
+fn plan_below(
+    random: &mut Random,
+    phones: &Phones,
+    most: usize,
+    table: usize,
+    data: usize,
+) -> Shape {
     loop {
-        let shape = few(random, phones);
-        let Sections {
-            phones,
-            index,
-            data,
-        } = &shape.lexicon.sections;
-        if index.len() > 20 && data.len() < 400 && phones.len() < 400 {
+        let shape = plan(random, phones, most);
+        let sections = &shape.lexicon.sections;
+        let fits = sections.phones.len() < table && sections.data.len() < data;
+        if fits && sections.index.len() > 20 {
             return shape;
         }
     }
@@ -250,14 +247,8 @@ fn break_one(random: &mut Random, sections: &mut Sections, lexicon: &Lexicon) {
             }
         }
         _ => {
-            for _ in 0..random.between(1, 6) {
-                let byte = [random.byte()];
-                match random.below(4) {
-                    0 => put(phones, random.below(600), &byte),
-                    1 => put(index, random.below(4 * entries + 4), &byte),
-                    _ => put(data, random.below(len + 1), &byte),
-                }
-            }
+            let index = (1, index, 4 * entries + 4);
+            tables::alter(random, [(1, phones, 600), index, (2, data, len + 1)]);
         }
     }
 }

@@ -1,31 +1,10 @@
 //! The sections of the lexicon: their form by 01, what the search reads, and the original's reading.
 
 use crate::forever::{hold, Held};
-use crate::lent::Part;
-use crate::notation::Form;
+use crate::prelude::*;
 use crate::tables::{phone_names, phone_table};
-use original::{lexicon, phoneset};
-use std::rc::Rc;
 
-/// The three sections as bytes.
-#[derive(Clone, PartialEq)]
-pub struct Sections {
-    pub phones: Vec<u8>,
-    pub index: Vec<u8>,
-    pub data: Vec<u8>,
-}
-
-impl Sections {
-    pub fn parts(&self) -> [Part<'_>; 3] {
-        [
-            Part::read("lex.phones", Form::PhoneTable, &self.phones),
-            Part::read("lex.index", Form::Bytes, &self.index),
-            Part::read("lex.data", Form::Bytes, &self.data),
-        ]
-    }
-}
-
-smaller!(Sections: data, index, phones);
+sections!("lex": data);
 
 /// A compiled entry before it is written.
 #[derive(Clone)]
@@ -227,13 +206,10 @@ impl Lexicon {
     /// Where 01 says that a checked lexicon answers from: the first equal word with the exact tag, else
     /// the first equal word.
     pub fn direct(&self, word: &[u8], tag: u8) -> Option<usize> {
-        let entries = || (0..self.count()).filter_map(|i| Some((i, self.entry(i).ok()?)));
-        let mut equal = entries().filter(|(_, entry)| entry.word == word);
-        let first = equal.next()?;
-        let exact = std::iter::once(first)
-            .chain(equal)
-            .find(|(_, entry)| entry.tag == tag);
-        Some(exact.unwrap_or(first).0)
+        let entries = (0..self.count()).filter_map(|i| Some((i, self.entry(i).ok()?)));
+        let equal: Vec<_> = entries.filter(|(_, entry)| entry.word == word).collect();
+        let exact = equal.iter().find(|(_, entry)| entry.tag == tag);
+        exact.or(equal.first()).map(|(i, _)| *i)
     }
 }
 

@@ -1,9 +1,13 @@
 //! Compares the proved library with the original Rust, call by call; see README.md.
 
 #[macro_use]
+mod each;
+#[macro_use]
 mod rows;
 #[macro_use]
 mod shrink;
+#[macro_use]
+mod tables;
 
 mod call;
 mod calls;
@@ -31,16 +35,13 @@ mod spoken;
 mod store_edges;
 mod store_shapes;
 mod stores;
-mod tables;
 mod tally;
 mod tree_edges;
 mod tree_shapes;
 mod trees;
 mod words;
 
-use calls::{add_entries, add_entry, check_lexicon, is_sayable, is_vowel, lists, lookup};
-use calls::{new_sheet, new_store, phone_string, predict, say_word, split_stress, syllabify};
-use run::{Compared, Limit, Runner};
+use run::Limit;
 use std::process::ExitCode;
 
 const USAGE: &str =
@@ -63,32 +64,10 @@ fn main() -> ExitCode {
     };
     call::quiet_panics();
     let seed = arguments.seed;
-    let mut calls: Vec<Box<dyn Compared>> = vec![
-        Runner::<predict::Predict>::boxed(seed),
-        Runner::<syllabify::Syllabify>::boxed(seed),
-        Runner::<is_sayable::IsSayable>::boxed(seed),
-        Runner::<is_vowel::IsVowel>::boxed(seed),
-        Runner::<split_stress::SplitStress>::boxed(seed),
-        Runner::<check_lexicon::CheckLexicon>::boxed(seed),
-        Runner::<lookup::Lookup>::boxed(seed),
-        Runner::<new_store::NewStore>::boxed(seed),
-        Runner::<add_entry::AddEntry>::boxed(seed),
-        Runner::<add_entries::AddEntries>::boxed(seed),
-    ];
-    // the recorded list needs no library
-    if ours::SHEETS || arguments.record.is_some() {
-        calls.push(Runner::<new_sheet::NewSheet>::boxed(seed));
-        calls.push(Runner::<say_word::SayWord>::boxed(seed));
-        calls.push(Runner::<phone_string::PhoneString>::boxed(seed));
-        calls.push(Runner::<lists::Lists>::boxed(seed));
-    }
+    let mut calls = calls::all(seed);
     if let Limit::Lists(_) = arguments.limit {
         // nothing else then
         calls.drain(..calls.len() - 1);
-        if !ours::SHEETS {
-            eprintln!("the library has no sheets: see the feature `sheets` in Cargo.toml");
-            return ExitCode::from(MISUSED);
-        }
     }
     if let Some(folder) = &arguments.record {
         return match record::write(&calls, folder, seed, arguments.count) {

@@ -1,12 +1,8 @@
 //! Byte strings as the recorded list writes them. `.` is empty; a piece is two hex digits, `"text"`,
 //! `<text>` (a length byte and a text), `[text]` (a cell of 16 bytes), or `{N}` and a piece N times.
 
-use crate::cells::{cell, CELL};
-use crate::lent::Part;
-use crate::ours::Answer;
+use crate::prelude::*;
 use crate::records::number;
-use crate::sheets::ITEM;
-use crate::stores::{MOST_PHONES, SLOT};
 use crate::tables::phone_names;
 
 /// What bytes are, which tells how they are written.

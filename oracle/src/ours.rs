@@ -1,6 +1,7 @@
 //! The proved library, through its C interface: a slice is a pointer and a length.
 
 use crate::lent::Lent;
+use std::fmt;
 
 #[repr(C)]
 #[derive(Clone, Copy, PartialEq, Eq)]
@@ -28,6 +29,24 @@ impl Answer {
         Answer {
             refusal,
             ..Answer::accepted(0, line)
+        }
+    }
+}
+
+/// All numbers; the last two, which no call tells, where they are told.
+impl fmt::Display for Answer {
+    fn fmt(&self, f: &mut fmt::Formatter) -> fmt::Result {
+        let Answer {
+            refusal,
+            kind,
+            value,
+            second,
+            third,
+        } = self;
+        write!(f, "refusal {refusal} kind {kind} value {value}")?;
+        match (second, third) {
+            (0, 0) => Ok(()),
+            _ => write!(f, ", second {second}, third {third}"),
         }
     }
 }
@@ -64,31 +83,9 @@ library! {
     new_store = pronouncer_new_store(store);
     add_entry = pronouncer_add_entry(lex_phones, store, word, tag, phones);
     add_entries = pronouncer_add_entries(phones, store, spare, text);
-}
-
-#[cfg(feature = "sheets")]
-library! {
     new_sheet = pronouncer_new_sheet(sheet);
     say_word = pronouncer_say_word(
         lex_phones, lex_index, lex_data, lts_phones, lts_index, lts_model, store, sheet, word, tag
     );
     phone_string = pronouncer_phone_string(sheet, out);
 }
-
-/// Whether the library has the calls on sheets.
-pub const SHEETS: bool = cfg!(feature = "sheets");
-
-/// The calls on sheets before the library has them; nobody calls these.
-#[cfg(not(feature = "sheets"))]
-mod without_sheets {
-    use super::{Answer, Lent};
-
-    pub fn new_sheet(_: &mut [Lent]) -> Answer {
-        unreachable!("the library has no sheets")
-    }
-
-    pub use {new_sheet as phone_string, new_sheet as say_word};
-}
-
-#[cfg(not(feature = "sheets"))]
-pub use without_sheets::{new_sheet, phone_string, say_word};

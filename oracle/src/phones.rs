@@ -1,8 +1,6 @@
 //! Phones and phone lists, made from the original's own tables.
 
-use crate::random::Random;
-use crate::words;
-use original::{lexicon, phoneset};
+use crate::prelude::*;
 
 pub struct Phones {
     pub names: Vec<&'static str>,
@@ -14,6 +12,9 @@ pub struct Phones {
 /// Phones that are in no table, or nearly in one; the first is the empty one.
 const ODD: &str =
     " zz ae1 ax0 ae2 t0 pau0 pau1 ng1 AE Ax PAU NG st sk a e au pa n hh0 axrr abcdefghijklmno a-b";
+
+/// The lists that 01 rehearses, parted by commas; the first is the empty one.
+pub const REHEARSED: &str = ",k ae t,eh k s t r ax,s ih ng er,s t,t pau aa,ae t h r ax,ae t l ax";
 
 fn odd() -> Vec<&'static str> {
     ODD.split(' ').collect()

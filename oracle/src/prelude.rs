@@ -1,6 +1,6 @@
 //! What calls and the shapes of their inputs are written with.
 
-pub(crate) use crate::call::{ask, handed, Call, Outcome, Rows, Ruling, Stop, Table, Told};
+pub(crate) use crate::call::{ask, handed, row_of, Call, Outcome, Rows, Ruling, Stop, Table, Told};
 pub(crate) use crate::call::{OUTPUT, OUTPUT_OR_NONE, TOO_SHORT};
 pub(crate) use crate::cells::{self, cell, cells, is_high, is_over, text, Cell, List, CELL};
 pub(crate) use crate::lent::{Part, Room, Size};

@@ -1,9 +1,7 @@
 //! The recorded list: cases with the original's answers, for a program that has no Rust at hand.
 
-use crate::call::{Call, Expected};
-use crate::lent::Part;
-use crate::notation::{self, Form};
-use crate::ours::Answer;
+use crate::call::Expected;
+use crate::prelude::*;
 use crate::run::Compared;
 use std::collections::BTreeMap;
 use std::io;
@@ -108,6 +106,15 @@ pub fn whole_case<C: Call>(call: &C, input: &C::Input, front: &[String]) -> Stri
         (false, true) => format!("{case} ="),
         (false, false) => format!("{case} {}", call.show_written(input, outcome)),
     }
+}
+
+/// Lines of so many sets, each below a title.
+pub fn sets(title: &str, sets: usize, set: impl FnMut(usize) -> Vec<String>) -> Vec<String> {
+    let titles = (1..=sets).map(|number| vec![format!("# {title} {number} of {sets}")]);
+    titles
+        .zip((0..sets).map(set))
+        .flat_map(|(title, lines)| [title, lines].concat())
+        .collect()
 }
 
 /// Cases below a title, each with all that it is lent.

@@ -15,11 +15,6 @@ pub fn put(bytes: &mut [u8], at: usize, value: usize) {
     bytes[at..at + 2].copy_from_slice(&(value as u16).to_le_bytes());
 }
 
-/// Whether something is so that a sound store or sheet has; if not, the row that counts why.
-pub fn ensure(is_so: bool, why: &'static str) -> Result<(), &'static str> {
-    is_so.then_some(()).ok_or(why)
-}
-
 /// Bytes of every value but 0, in turn.
 pub fn filled(len: usize) -> Vec<u8> {
     (0..len).map(|at| 1 + (at % 251) as u8).collect()
@@ -40,6 +35,17 @@ pub fn spoil(random: &mut Random, bytes: &mut [u8], from: usize) {
     }
 }
 
+/// The same bytes with another one at a place.
+pub fn with_byte(bytes: &[u8], at: usize, byte: u8) -> Vec<u8> {
+    [&bytes[..at], &[byte], &bytes[at + 1..]].concat()
+}
+
+/// Bytes that are cut, or zeros behind them, so that they are so many.
+pub fn resized(bytes: &[u8], len: usize) -> Vec<u8> {
+    let zeros = std::iter::repeat(&0);
+    bytes.iter().chain(zeros).take(len).copied().collect()
+}
+
 /// Bytes with one of them altered: each to some values, or where no field stands to the lowest of these.
 pub fn altered(good: &[u8], size: usize, last_field: usize, values: &[u8]) -> Vec<Vec<u8>> {
     let mut all = vec![];
@@ -49,9 +55,7 @@ pub fn altered(good: &[u8], size: usize, last_field: usize, values: &[u8]) -> Ve
             if value == byte || at % size > last_field && *value > 2 {
                 continue;
             }
-            let mut altered = good.to_vec();
-            altered[at] = *value;
-            all.push(altered);
+            all.push(with_byte(good, at, *value));
         }
     }
     all
@@ -76,6 +80,16 @@ pub fn in_place_of(
 pub fn zeroed(bytes: &[u8]) -> Vec<Vec<u8>> {
     let zeros = (!zeros(bytes)).then(|| vec![0; bytes.len()]);
     zeros.into_iter().collect()
+}
+
+/// Bytes of which those from a place on are fewer, or zeros, for shrinking; only lengths count that are shorter.
+pub fn less_behind(bytes: &[u8], from: usize, lengths: &[usize]) -> Vec<Vec<u8>> {
+    let lengths = lengths.iter().filter(|len| **len < bytes.len());
+    let shorter = lengths.map(|len| bytes[..*len].to_vec());
+    let zeros = zeroed(&bytes[from..]).into_iter();
+    shorter
+        .chain(zeros.map(|behind| [&bytes[..from], &behind].concat()))
+        .collect()
 }
 
 /// Bytes with records left out or made zero, for shrinking; one by one in so many records.

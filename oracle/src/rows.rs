@@ -17,6 +17,25 @@ macro_rules! rows {
     };
 }
 
+/// What something must be, in groups, each with the row that counts what is not. Makes one list of the groups' rows, and
+/// for each group a function that tells the first row that is met, as what is amiss.
+macro_rules! checks {
+    ($vis:vis $all:ident:
+     $($(#[$about:meta])* $check:ident($($given:ident: $kind:ty),* $(,)?)
+       $({ $($before:tt)* })? [ $($amiss:literal => $is_so:expr),* $(,)? ])*) => {
+        $vis const $all: &[&[&str]] = &[$(&[$($amiss),*]),*];
+
+        $($(#[$about])*
+        fn $check($($given: $kind),*) -> Result<(), &'static str> {
+            $($($before)*)?
+            $(if !$is_so {
+                return Err($amiss);
+            })*
+            Ok(())
+        })*
+    };
+}
+
 /// The rank order of the refusals.
 const RANKS: [u32; 9] = [1, 2, 3, 4, 5, 6, 7, 8, 9];
 

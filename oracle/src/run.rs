@@ -80,20 +80,10 @@ impl<C: Call + 'static> Runner<C> {
     }
 
     fn outcome(&self, input: &C::Input, outcome: &Outcome) -> String {
-        let a = outcome.answer;
         let altered = outcome.altered.as_ref();
         let altered = altered.map_or(String::new(), |what| format!(", altered {what}"));
-        let rest = match (a.second, a.third) {
-            (0, 0) => String::new(),
-            (second, third) => format!(", second {second}, third {third}"),
-        };
-        format!(
-            "refusal {} kind {} value {}{rest}, output {}{altered}",
-            a.refusal,
-            a.kind,
-            a.value,
-            clipped(self.call.show_written(input, outcome)),
-        )
+        let written = clipped(self.call.show_written(input, outcome));
+        format!("{}, output {written}{altered}", outcome.answer)
     }
 }
 

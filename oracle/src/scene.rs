@@ -71,6 +71,11 @@ impl Scene {
         }
     }
 
+    /// A new lexicon beside a store.
+    pub fn of(lexicon: Lexicon, store: Vec<u8>) -> Rc<Scene> {
+        Rc::new(Scene::new(&Rc::new(lexicon), store))
+    }
+
     /// The same without the original, for a store that the library has made.
     pub fn alone(lexicon: &Rc<Lexicon>, store: Vec<u8>) -> Scene {
         Scene {
@@ -125,12 +130,9 @@ impl Scene {
             }
         }
         let placed = |entry: &Entry| {
-            let (word, tag) = entry.key();
-            let slot = slots.iter().find(|((w, t), _)| w == word && *t == tag);
-            slot.map(|(_, slot)| Placed {
-                slot: *slot,
-                entry: entry.clone(),
-            })
+            let (key, entry) = (entry.key(), entry.clone());
+            let slot = slots.iter().find(|(known, _)| *known == key)?.1;
+            Some(Placed { slot, entry })
         };
         let chain: Option<Vec<Placed>> = list.iter().map(placed).collect();
         match chain {
@@ -146,10 +148,7 @@ impl Scene {
 
     /// The keys of the store, with their slots.
     fn slots(&self) -> Vec<(Key, usize)> {
-        let slot = |placed: &Placed| {
-            let (word, tag) = placed.entry.key();
-            ((word.to_vec(), tag), placed.slot)
-        };
+        let slot = |placed: &Placed| (placed.entry.key(), placed.slot);
         self.entries().iter().map(slot).collect()
     }
 

@@ -1,7 +1,8 @@
 //! Sheets for the short inputs: every small one, and sheets at 01's limits and just past them.
 
-use crate::records;
-use crate::sheets::{self, Placed, ITEM, LARGEST};
+use crate::prelude::*;
+use crate::records::{resized, with_byte};
+use crate::sheets::{Placed, LARGEST};
 use crate::spoken::{Syllable, Word};
 
 /// A word, and its syllables, each as its stress and its phones parted by blanks.
@@ -66,32 +67,26 @@ pub fn altered_bytes() -> Vec<Vec<u8>> {
 /// The smallest sheet with every value in each of its bytes.
 pub fn every_byte() -> Vec<Vec<u8>> {
     let smallest = smallest();
-    let mut all = vec![];
-    for at in 0..smallest.len() {
-        for value in 0..=255 {
-            let mut sheet = smallest.clone();
-            sheet[at] = value;
-            all.push(sheet);
-        }
+    each! {
+        for at in 0..smallest.len();
+        for value in 0..=255;
+        [with_byte(&smallest, at, value)]
     }
-    all
 }
 
 /// Sheets with the top bit of one byte flipped. That leaves no used item sound, whatever the byte was for, and
 /// alters nothing that is looked at behind them; the driver's reader must say so too.
 pub fn flipped() -> Vec<Vec<u8>> {
-    let mut all = vec![];
-    let new = sheet(&[], 100, 0);
-    for good in [good(), smallest(), new] {
-        for at in 0..good.len() {
-            let mut sheet = good.clone();
-            sheet[at] ^= 128;
-            let refused = sheets::read(&sheet).is_err();
-            assert!(refused == (at < sheets::unused(&good)), "byte {at}");
-            all.push(sheet);
-        }
+    let flip = |good: &[u8], at: usize| {
+        let sheet = with_byte(good, at, good[at] ^ 128);
+        let refused = sheets::read(&sheet).is_err();
+        assert!(refused == (at < sheets::unused(good)), "byte {at}");
+        sheet
+    };
+    each! {
+        for good in [good(), smallest(), sheet(&[], 100, 0)];
+        (0..good.len()).map(|at| flip(&good, at))
     }
-    all
 }
 
 /// Every sheet of one word, and of two, with up to two syllables of up to two phones; in their order, from
@@ -139,22 +134,11 @@ pub fn small() -> Vec<Vec<u8>> {
 pub fn limits() -> Vec<Vec<u8>> {
     let good = good();
     let mut all = vec![good.clone(), smallest()];
-    for len in [0, 1, 63, 64, 65, 127, 128, 129, 191, 192, 640] {
-        all.push(vec![0; len]);
-        let mut sheet = good.clone();
-        sheet.resize(len, 0);
-        all.push(sheet);
-    }
-    for len in [
-        LARGEST - ITEM,
-        LARGEST - 1,
-        LARGEST,
-        LARGEST + 1,
-        LARGEST + ITEM,
-        2 * LARGEST,
-    ] {
-        all.push(vec![0; len]);
-    }
+    let lengths = [0, 1, 63, 64, 65, 127, 128, 129, 191, 192, 640];
+    all.extend(lengths.map(|len| resized(&good, len)));
+    let longest = [LARGEST - ITEM, LARGEST - 1, LARGEST, LARGEST + 1];
+    let lengths = [&lengths[..], &longest, &[LARGEST + ITEM, 2 * LARGEST]].concat();
+    all.extend(lengths.into_iter().map(|len| vec![0; len]));
     // cut behind its last used item, within it, and before it
     let used = sheets::unused(&good);
     for len in [used + 63, used, used - 1, used - ITEM] {

@@ -52,11 +52,7 @@ pub fn random(random: &mut Random, phones: &Phones, unused: usize) -> Vec<u8> {
         random.shuffle(&mut numbers);
         sheets::renumber(&mut placed, |item| numbers[item - 1]);
     }
-    let more = match random.weighted(&[4, 2, 3]) {
-        0 => 0,
-        1 => ITEM - 1,
-        _ => random.below(ITEM),
-    };
+    let more = random.ranged(&[(4, 0, 0), (2, ITEM - 1, ITEM - 1), (3, 0, ITEM - 1)]);
     let behind = (ITEM * unused + more).min(LARGEST - ITEM * (used + 1));
     let fill = random.byte() * u8::from(random.once_in(2));
     let mut sheet = sheet(&placed, behind, fill);
@@ -68,14 +64,9 @@ pub fn random(random: &mut Random, phones: &Phones, unused: usize) -> Vec<u8> {
 
 /// The lengths of sheets that lists of calls work on.
 pub fn length(random: &mut Random) -> usize {
-    let items = match random.weighted(&[2, 2, 16, 24, 14, 2]) {
-        0 => 1,
-        1 => 2,
-        2 => random.between(3, 12),
-        3 => random.between(13, 40),
-        4 => random.between(41, 64),
-        _ => random.between(65, 200),
-    };
+    let few = [(2, 1, 1), (2, 2, 2), (16, 3, 12)];
+    let more = [(24, 13, 40), (14, 41, 64), (2, 65, 200)];
+    let items = random.ranged(&[few, more].concat());
     let more = [0, 1, ITEM - 1, random.below(ITEM)][random.weighted(&[5, 1, 1, 2])];
     ITEM * items + more
 }
@@ -165,16 +156,10 @@ pub fn smaller(sheet: &[u8]) -> Vec<Vec<u8>> {
         return records::plainer(sheet, ITEM, 24);
     };
     let from = sheets::unused(sheet);
-    let mut all = vec![];
     let whole = sheet.len() - sheet.len() % ITEM;
-    let lengths = [from, from + ITEM - 1, from + ITEM, whole];
-    let shorter = lengths.into_iter().filter(|len| *len < sheet.len());
-    all.extend(shorter.map(|len| sheet[..len].to_vec()));
-    if sheet.len() >= from + 2 * ITEM {
-        all.push(sheet[..sheet.len() - ITEM].to_vec());
-    }
-    let zeroed = records::zeroed(&sheet[from..]).into_iter();
-    all.extend(zeroed.map(|behind| [&sheet[..from], &behind].concat()));
+    let one_less = (sheet.len() - ITEM).max(from);
+    let lengths = [from, from + ITEM - 1, from + ITEM, whole, one_less];
+    let mut all = records::less_behind(sheet, from, &lengths);
     // the items of words that are left out become unused
     let rewritten = |words: &[Word]| sheets::write(sheet, &in_order(words));
     let words: Vec<Word> = placed.iter().map(|placed| placed.word.clone()).collect();

@@ -1,8 +1,8 @@
 //! The sheet: 01's layout, read and written by the driver itself.
 
-use crate::records::{ensure, number, put, zeros};
+use crate::prelude::*;
+use crate::records::{number, put, zeros};
 use crate::spoken::{Syllable, Word};
-use crate::words;
 
 /// Bytes of an item.
 pub const ITEM: usize = 64;
@@ -37,33 +37,6 @@ pub struct Placed {
     pub items: Vec<usize>,
 }
 
-/// Why a sheet is refused by 2: the rows of the table that count it.
-pub const UNSOUND: &[&str] = &[
-    "sheet: wrong length",
-    "sheet: bytes beside item 0's fields",
-    "sheet: more used than there are items",
-    "sheet: link that leaves the used items",
-    "sheet: link back to an item",
-    "sheet: used item that no link reaches",
-    "sheet: wrong kind",
-    "sheet: wrong parent",
-    "sheet: 'last word' is another",
-    "sheet: 'last child' is another",
-    "sheet: stress that is neither 48 nor 49",
-    "sheet: syllable without a phone",
-    "sheet: word over 47 bytes",
-    "sheet: phone over 15 bytes",
-    "sheet: text with a high byte",
-    "sheet: bytes past a text",
-    "sheet: syllable with a text",
-    "sheet: stress of a word or a phone",
-    "sheet: child of a phone",
-    "sheet: phone links of a word or a syllable",
-    "sheet: bytes 14 and 15 of an item",
-    "sheet: phones forwards in another order",
-    "sheet: phones backwards in another order",
-];
-
 /// Whether a sheet's length is right.
 pub fn has_length(len: usize) -> bool {
     (ITEM..=LARGEST).contains(&len)
@@ -71,17 +44,10 @@ pub fn has_length(len: usize) -> bool {
 
 /// The words of a sound sheet; of any other sheet, what is amiss.
 pub fn read(sheet: &[u8]) -> Result<Vec<Placed>, &'static str> {
-    ensure(has_length(sheet.len()), "sheet: wrong length")?;
-    let items: Vec<&[u8]> = sheet.chunks_exact(ITEM).collect();
-    let used = number(&items[0][USED..]);
-    ensure(
-        zeros(&items[0][..FIRST]) && zeros(&items[0][LINKS_END..]),
-        "sheet: bytes beside item 0's fields",
-    )?;
-    ensure(used < items.len(), "sheet: more used than there are items")?;
+    of_head(sheet)?;
     let mut tree = Tree {
-        seen: vec![false; used + 1],
-        items,
+        seen: vec![false; unused(sheet) / ITEM],
+        items: sheet.chunks_exact(ITEM).collect(),
     };
     let mut words = vec![];
     let mut phones = vec![];
@@ -90,35 +56,25 @@ pub fn read(sheet: &[u8]) -> Result<Vec<Placed>, &'static str> {
         let mut syllables = vec![];
         for at in tree.children(at, SYLLABLE)? {
             let below = tree.children(at, PHONE)?;
-            ensure(!below.is_empty(), "sheet: syllable without a phone")?;
-            let texts: Result<_, _> = below.iter().map(|at| read_phone(tree.items[*at])).collect();
+            of_fields(tree.items[at])?;
+            let texts: Result<_, _> = below.iter().map(|at| read_text(tree.items[*at])).collect();
             syllables.push(Syllable {
-                stress: read_syllable(tree.items[at])?,
+                stress: tree.items[at][STRESS],
                 phones: texts?,
             });
             items.push(at);
             items.extend(&below);
             phones.extend(below);
         }
-        let text = read_word(tree.items[at])?;
+        let text = read_text(tree.items[at])?;
         let word = Word { text, syllables };
         words.push(Placed { word, items });
     }
-    ensure(
-        !tree.seen[1..].contains(&false),
-        "sheet: used item that no link reaches",
-    )?;
+    of_all(&tree.seen)?;
     // item 0 stands before the first phone and behind the last
     let ring: Vec<usize> = [&[0], &phones[..], &[0]].concat();
     for pair in ring.windows(2) {
-        ensure(
-            number(&tree.items[pair[0]][BEHIND..]) == pair[1],
-            "sheet: phones forwards in another order",
-        )?;
-        ensure(
-            number(&tree.items[pair[1]][BEFORE..]) == pair[0],
-            "sheet: phones backwards in another order",
-        )?;
+        of_neighbours(&tree.items, pair[0], pair[1])?;
     }
     Ok(words)
 }
@@ -135,167 +91,144 @@ impl Tree<'_> {
         let mut children = vec![];
         let mut at = number(&self.items[parent][FIRST..]);
         while at != 0 {
-            match self.seen.get_mut(at) {
-                None => return Err("sheet: link that leaves the used items"),
-                Some(true) => return Err("sheet: link back to an item"),
-                Some(seen) => *seen = true,
-            }
-            let item = self.items[at];
-            ensure(item[0] == kind, "sheet: wrong kind")?;
-            ensure(number(&item[PARENT..]) == parent, "sheet: wrong parent")?;
-            ensure(
-                zeros(&item[LINKS_END..LEN]),
-                "sheet: bytes 14 and 15 of an item",
-            )?;
+            of_link(at, &self.seen)?;
+            self.seen[at] = true;
+            of_child(self.items[at], kind, parent)?;
             children.push(at);
-            at = number(&item[NEXT..]);
+            at = number(&self.items[at][NEXT..]);
         }
-        match children.last().unwrap_or(&0) {
-            last if *last == number(&self.items[parent][LAST..]) => Ok(children),
-            _ if parent == 0 => Err("sheet: 'last word' is another"),
-            _ => Err("sheet: 'last child' is another"),
-        }
+        of_children(self.items[parent], children.last().copied())?;
+        Ok(children)
     }
-}
-
-fn read_word(item: &[u8]) -> Result<Vec<u8>, &'static str> {
-    has_no_phone_links(item)?;
-    read_text(item, words::LONGEST, "sheet: word over 47 bytes")
-}
-
-fn has_no_phone_links(item: &[u8]) -> Result<(), &'static str> {
-    let links = &item[BEFORE..LINKS_END];
-    ensure(zeros(links), "sheet: phone links of a word or a syllable")
-}
-
-fn read_syllable(item: &[u8]) -> Result<u8, &'static str> {
-    has_no_phone_links(item)?;
-    ensure(zeros(&item[LEN..]), "sheet: syllable with a text")?;
-    match item[STRESS] {
-        stress @ (b'0' | b'1') => Ok(stress),
-        _ => Err("sheet: stress that is neither 48 nor 49"),
-    }
-}
-
-fn read_phone(item: &[u8]) -> Result<Vec<u8>, &'static str> {
-    ensure(zeros(&item[FIRST..PARENT]), "sheet: child of a phone")?;
-    read_text(item, LONGEST_PHONE, "sheet: phone over 15 bytes")
 }
 
 /// The text of a word or a phone, or what is amiss with it.
-fn read_text(item: &[u8], longest: usize, too_long: &'static str) -> Result<Vec<u8>, &'static str> {
-    let len = usize::from(item[LEN]);
-    ensure(item[STRESS] == 0, "sheet: stress of a word or a phone")?;
-    ensure(len <= longest, too_long)?;
-    let (text, past) = item[TEXT..].split_at(len);
-    ensure(text.is_ascii(), "sheet: text with a high byte")?;
-    ensure(zeros(past), "sheet: bytes past a text")?;
-    Ok(text.to_vec())
+fn read_text(item: &[u8]) -> Result<Vec<u8>, &'static str> {
+    of_fields(item)?;
+    Ok(item[TEXT..][..item[LEN].into()].to_vec())
 }
 
-/// An item before it is written.
-#[derive(Default)]
-struct Item<'a> {
-    kind: u8,
-    stress: u8,
-    next: usize,
-    children: &'a [usize],
-    parent: usize,
-    before: usize,
-    behind: usize,
-    text: &'a [u8],
+checks! { pub UNSOUND:
+    /// A sheet's length, and its item 0.
+    of_head(sheet: &[u8]) [
+        "sheet: wrong length" => has_length(sheet.len()),
+        "sheet: bytes beside item 0's fields" =>
+            zeros(&sheet[..FIRST]) && zeros(&sheet[LINKS_END..ITEM]),
+        "sheet: more used than there are items" => unused(sheet) <= sheet.len(),
+    ]
+
+    /// An item that a link leads to.
+    of_link(at: usize, seen: &[bool]) [
+        "sheet: link that leaves the used items" => at < seen.len(),
+        "sheet: link back to an item" => !seen[at],
+    ]
+
+    /// A child of an item.
+    of_child(item: &[u8], kind: u8, parent: usize) [
+        "sheet: wrong kind" => item[0] == kind,
+        "sheet: wrong parent" => number(&item[PARENT..]) == parent,
+        "sheet: bytes 14 and 15 of an item" => zeros(&item[LINKS_END..LEN]),
+    ]
+
+    /// All children of an item; item 0 has no kind.
+    of_children(parent: &[u8], last: Option<usize>) {
+        let is_last = number(&parent[LAST..]) == last.unwrap_or(0);
+    } [
+        "sheet: 'last word' is another" => parent[0] != 0 || is_last,
+        "sheet: 'last child' is another" => parent[0] == 0 || is_last,
+        "sheet: syllable without a phone" => parent[0] != SYLLABLE || last.is_some(),
+    ]
+
+    /// What an item of its kind has beside its links in the tree.
+    of_fields(item: &[u8]) {
+        let [word, syllable, phone] = [WORD, SYLLABLE, PHONE].map(|kind| item[0] == kind);
+        let len = usize::from(item[LEN]);
+    } [
+        "sheet: phone links of a word or a syllable" => phone || zeros(&item[BEFORE..LINKS_END]),
+        "sheet: child of a phone" => !phone || zeros(&item[FIRST..PARENT]),
+        "sheet: syllable with a text" => !syllable || zeros(&item[LEN..]),
+        "sheet: stress that is neither 48 nor 49" => !syllable || matches!(item[STRESS], b'0' | b'1'),
+        "sheet: stress of a word or a phone" => syllable || item[STRESS] == 0,
+        "sheet: word over 47 bytes" => !word || len <= words::LONGEST,
+        "sheet: phone over 15 bytes" => !phone || len <= LONGEST_PHONE,
+        "sheet: text with a high byte" => item[TEXT..][..len].is_ascii(),
+        "sheet: bytes past a text" => zeros(&item[TEXT + len..]),
+    ]
+
+    /// All used items.
+    of_all(seen: &[bool]) [
+        "sheet: used item that no link reaches" => !seen[1..].contains(&false),
+    ]
+
+    /// Two phones of which one stands behind the other.
+    of_neighbours(items: &[&[u8]], one: usize, other: usize) [
+        "sheet: phones forwards in another order" => number(&items[one][BEHIND..]) == other,
+        "sheet: phones backwards in another order" => number(&items[other][BEFORE..]) == one,
+    ]
 }
 
-impl Item<'_> {
-    fn put(&self, sheet: &mut [u8], at: usize) {
-        let item = &mut sheet[ITEM * at..][..ITEM];
-        item.fill(0);
-        item[0] = self.kind;
-        item[STRESS] = self.stress;
-        for (field, value) in [
-            (NEXT, self.next),
-            (FIRST, *self.children.first().unwrap_or(&0)),
-            (LAST, *self.children.last().unwrap_or(&0)),
-            (PARENT, self.parent),
-            (BEFORE, self.before),
-            (BEHIND, self.behind),
-        ] {
-            put(item, field, value);
-        }
-        item[LEN] = self.text.len() as u8;
-        item[TEXT..TEXT + self.text.len()].copy_from_slice(self.text);
+/// A sheet as it is written.
+struct Written(Vec<u8>);
+
+impl Written {
+    fn link(&mut self, item: usize, field: usize, to: usize) {
+        put(&mut self.0, ITEM * item + field, to);
     }
-}
 
-impl Placed {
-    /// The syllables' items, each with those of its phones.
-    fn below(&self) -> Vec<(usize, &[usize])> {
-        let mut rest = &self.items[1..];
-        let part = |syllable: &Syllable| {
-            let (own, behind) = rest.split_at(1 + syllable.phones.len());
-            rest = behind;
-            (own[0], &own[1..])
-        };
-        self.word.syllables.iter().map(part).collect()
+    /// An item without links.
+    fn item(&mut self, at: usize, kind: u8, stress: u8, text: &[u8]) {
+        let item = &mut self.0[ITEM * at..][..ITEM];
+        item.fill(0);
+        item[0] = kind;
+        item[STRESS] = stress;
+        item[LEN] = text.len() as u8;
+        item[TEXT..TEXT + text.len()].copy_from_slice(text);
+    }
+
+    /// The links between an item and its children.
+    fn children(&mut self, parent: usize, children: &[usize]) {
+        self.link(parent, FIRST, *children.first().unwrap_or(&0));
+        self.link(parent, LAST, *children.last().unwrap_or(&0));
+        for (i, child) in children.iter().enumerate() {
+            self.link(*child, PARENT, parent);
+            self.link(*child, NEXT, *children.get(i + 1).unwrap_or(&0));
+        }
     }
 }
 
 /// The sheet with these words in their items, which are 1 to so many. Every used item is written whole; the
 /// bytes behind stay as they are.
 pub fn write(sheet: &[u8], placed: &[Placed]) -> Vec<u8> {
-    let mut sheet = sheet.to_vec();
+    let mut sheet = Written(sheet.to_vec());
+    // item 0 stands before the first phone and behind the last
+    let mut ring = vec![0];
+    sheet.item(0, 0, 0, b"");
+    for Placed { word, items } in placed {
+        sheet.item(items[0], WORD, 0, &word.text);
+        let mut rest = &items[1..];
+        let mut syllables = vec![];
+        for Syllable { stress, phones } in &word.syllables {
+            let (own, behind) = rest.split_at(1 + phones.len());
+            rest = behind;
+            sheet.item(own[0], SYLLABLE, *stress, b"");
+            for (at, phone) in own[1..].iter().zip(phones) {
+                sheet.item(*at, PHONE, 0, phone);
+            }
+            sheet.children(own[0], &own[1..]);
+            syllables.push(own[0]);
+            ring.extend(&own[1..]);
+        }
+        sheet.children(items[0], &syllables);
+    }
     let words: Vec<usize> = placed.iter().map(|placed| placed.items[0]).collect();
-    let below: Vec<Vec<(usize, &[usize])>> = placed.iter().map(Placed::below).collect();
-    let phones: Vec<usize> = (below.iter().flatten())
-        .flat_map(|(_, phones)| phones.iter().copied())
-        .collect();
-    let at = |list: &[usize], i: usize| *list.get(i).unwrap_or(&0);
-    Item {
-        children: &words,
-        parent: used(placed),
-        before: *phones.last().unwrap_or(&0),
-        behind: at(&phones, 0),
-        ..Item::default()
+    sheet.children(0, &words);
+    sheet.link(0, USED, used(placed));
+    ring.push(0);
+    for pair in ring.windows(2) {
+        sheet.link(pair[0], BEHIND, pair[1]);
+        sheet.link(pair[1], BEFORE, pair[0]);
     }
-    .put(&mut sheet, 0);
-    // how many phones were written before
-    let mut done = 0;
-    for (i, (placed, below)) in placed.iter().zip(&below).enumerate() {
-        let syllables: Vec<usize> = below.iter().map(|(syllable, _)| *syllable).collect();
-        Item {
-            kind: WORD,
-            next: at(&words, i + 1),
-            children: &syllables,
-            text: &placed.word.text,
-            ..Item::default()
-        }
-        .put(&mut sheet, words[i]);
-        for (j, (syllable, own)) in placed.word.syllables.iter().zip(below).enumerate() {
-            Item {
-                kind: SYLLABLE,
-                stress: syllable.stress,
-                next: at(&syllables, j + 1),
-                children: own.1,
-                parent: words[i],
-                ..Item::default()
-            }
-            .put(&mut sheet, own.0);
-            for (k, text) in syllable.phones.iter().enumerate() {
-                Item {
-                    kind: PHONE,
-                    next: at(own.1, k + 1),
-                    parent: own.0,
-                    before: if done == 0 { 0 } else { phones[done - 1] },
-                    behind: at(&phones, done + 1),
-                    text,
-                    ..Item::default()
-                }
-                .put(&mut sheet, own.1[k]);
-                done += 1;
-            }
-        }
-    }
-    sheet
+    sheet.0
 }
 
 /// The sheet with one more word, whose items are the next ones in their order. The driver checks itself: its
@@ -312,13 +245,13 @@ pub fn with_word(sheet: &[u8], before: &[Placed], word: &Word) -> Vec<u8> {
         read(&after).as_ref() == Ok(&words),
         "the driver does not read what it wrote"
     );
-    let ends = |list: &[Placed]| {
-        let word = list.last().map_or(0, |placed| placed.items[0]);
-        let phones = list.iter().flat_map(Placed::below);
-        let phone = phones.last().map_or(0, |(_, own)| own[own.len() - 1]);
-        (word, phone)
-    };
-    let (last_word, last_phone) = ends(before);
+    let last_word = before.last().map_or(0, |placed| placed.items[0]);
+    // a word that has phones ends with one
+    let spoken = |placed: &&Placed| placed.items.len() > 1;
+    let last_phone = before
+        .iter()
+        .rfind(spoken)
+        .map_or(0, |placed| placed.items[placed.items.len() - 1]);
     let touched = |at: usize| match (at / ITEM, at % ITEM) {
         (0, field) => (FIRST..LINKS_END).contains(&field),
         (item, _) if item > used => item <= used + word.items(),

@@ -131,3 +131,21 @@ macro_rules! smaller {
     (@ $field:expr) => { crate::shrink::Shrink::smaller(&$field) };
     (@ $field:expr, $rule:expr) => { $rule(&$field) };
 }
+
+/// The input of a call by its fields; it is made smaller by each of them in turn, as its type is or by a function.
+macro_rules! input {
+    ($($field:ident: $kind:ty $(=> $rule:expr)?),*) => {
+        #[derive(Clone)]
+        pub struct Input {
+            $(pub $field: $kind),*
+        }
+
+        impl Input {
+            pub fn new($($field: $kind),*) -> Input {
+                Input { $($field),* }
+            }
+        }
+
+        smaller!(Input: $($field $(by $rule)?),*);
+    };
+}

@@ -28,19 +28,12 @@ pub fn small(most: usize) -> Vec<Vec<u8>> {
         ("b", "n"),
         ("B", "v"),
     ];
-    let phones = ["k", "t", "s", "r"];
-    let mut all = vec![];
-    for count in 0..=most {
-        for choice in 0..6_usize.pow(count as u32) {
-            let made = |i: usize| {
-                let (word, tag) = keys[choice / 6_usize.pow(i as u32) % 6];
-                add(word, tag, phones[i])
-            };
-            let adds: Vec<Add> = (0..count).map(made).collect();
-            all.push(grown(most + 1, 0, &adds));
-        }
-    }
-    all
+    let made = |keys: &Vec<(&str, &str)>| {
+        let adds = keys.iter().zip(["k", "t", "s", "r"]);
+        let adds = adds.map(|((word, tag), phone)| add(word, tag, phone));
+        grown(most + 1, 0, &adds.collect::<Vec<Add>>())
+    };
+    words::every(&keys, most).iter().map(made).collect()
 }
 
 /// A store of two entries, the newer in the first slot, and a slot with anything in it.
@@ -62,18 +55,10 @@ pub fn altered_bytes() -> Vec<Vec<u8>> {
 pub fn limits() -> Vec<Vec<u8>> {
     let good = good();
     let mut all = vec![good.clone(), stores::new(1, 0), stores::new(2, 0xff)];
-    for len in [0, 1, 511, 513, 1_023, 2_047, 2_049] {
-        let mut store = good.clone();
-        store.resize(len, 0);
-        all.push(store);
-    }
-    for len in [LARGEST - 1, LARGEST, LARGEST + 1, LARGEST + SLOT] {
-        all.push(vec![0; len]);
-    }
+    all.extend([0, 1, 511, 513, 1_023, 2_047, 2_049].map(|len| records::resized(&good, len)));
+    all.extend([LARGEST - 1, LARGEST, LARGEST + 1, LARGEST + SLOT].map(|len| vec![0; len]));
     // cut behind its last used slot, and before it
-    all.push(good[..3 * SLOT].to_vec());
-    all.push(good[..2 * SLOT].to_vec());
-    all.push(good[..SLOT].to_vec());
+    all.extend([3, 2, 1].map(|slots| good[..slots * SLOT].to_vec()));
     let full = |count: usize, slots: usize| {
         let made = |i: usize| {
             let word = format!("w{i}");

@@ -6,17 +6,9 @@ use crate::stores::{Placed, LARGEST};
 
 /// A sound store beside a lexicon that has its form, grown by adds over some words.
 pub fn random(random: &mut Random, empty: &Scene, words: &[Vec<u8>], phones: &Phones) -> Vec<u8> {
-    let slots = match random.weighted(&[3, 16, 6, 1]) {
-        0 => 1,
-        1 => random.between(2, 8),
-        2 => random.between(2, 24),
-        _ => LARGEST / SLOT,
-    };
-    let adds = match random.weighted(&[1, 4, 4]) {
-        0 => 0,
-        1 => slots - 1,
-        _ => random.below(2 * slots),
-    };
+    let all = LARGEST / SLOT;
+    let slots = random.ranged(&[(3, 1, 1), (16, 2, 8), (6, 2, 24), (1, all, all)]);
+    let adds = random.ranged(&[(1, 0, 0), (4, slots - 1, slots - 1), (4, 0, 2 * slots - 1)]);
     of_size(random, empty, words, phones, slots, adds)
 }
 
@@ -71,6 +63,13 @@ pub fn add(
         wanted: Wanted::new(words::recased(random, &word), tag),
         phones: List::of(&known(random, scene, phones, count)),
     }
+}
+
+/// An entry that can be added, of a size that a list can hold.
+pub fn few_phones(random: &mut Random, scene: &Scene, words: &[Vec<u8>], phones: &Phones) -> Add {
+    let mut add = add(random, scene, words, phones, false);
+    add.phones.cells.truncate(6);
+    add
 }
 
 /// So many phones that may be added.
@@ -190,7 +189,6 @@ pub fn smaller(store: &[u8]) -> Vec<Vec<u8>> {
     let Ok(chain) = stores::read(store) else {
         return records::plainer(store, SLOT, 4);
     };
-    let mut all = vec![];
     let rewritten = |chain: &[Placed]| {
         let mut chain = chain.to_vec();
         // the slots stay in their order
@@ -201,16 +199,11 @@ pub fn smaller(store: &[u8]) -> Vec<Vec<u8>> {
         }
         stores::write(store, &chain)
     };
-    all.extend(chain.smaller().iter().map(|chain| rewritten(chain)));
+    let fewer = chain.smaller();
+    let mut all: Vec<Vec<u8>> = fewer.iter().map(|chain| rewritten(chain)).collect();
     let from = stores::unused(store);
-    for slots in [0, 1, 2] {
-        let len = from + SLOT * slots;
-        if len < store.len() {
-            all.push(store[..len].to_vec());
-        }
-    }
-    let zeroed = records::zeroed(&store[from..]).into_iter();
-    all.extend(zeroed.map(|behind| [&store[..from], &behind].concat()));
+    let lengths = [from, from + SLOT, from + 2 * SLOT];
+    all.extend(records::less_behind(store, from, &lengths));
     let mut ordered = chain.clone();
     for (slot, placed) in (1..).zip(&mut ordered) {
         placed.slot = slot;

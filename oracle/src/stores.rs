@@ -1,8 +1,7 @@
 //! The store: 01's layout, read and written by the driver itself.
 
-use crate::cells::{cell, is_over, text, CELL};
-use crate::records::{ensure, number, put, zeros};
-use crate::words;
+use crate::prelude::*;
+use crate::records::{number, put, zeros};
 
 /// Bytes of a slot.
 pub const SLOT: usize = 512;
@@ -31,8 +30,8 @@ pub struct Entry {
 }
 
 impl Entry {
-    pub fn key(&self) -> (&[u8], u8) {
-        (&self.word, self.tag)
+    pub fn key(&self) -> Key {
+        (self.word.clone(), self.tag)
     }
 }
 
@@ -46,30 +45,6 @@ pub struct Placed {
 smaller!(Entry: phones, word);
 smaller!(Placed: entry);
 
-/// Why a store is refused by 2: the rows of the table that count it.
-pub const UNSOUND: &[&str] = &[
-    "store: wrong length",
-    "store: bytes beside slot 0's fields",
-    "store: more used than there are slots",
-    "store: chain leaves the used slots",
-    "store: chain comes back to a slot",
-    "store: chain misses a used slot",
-    "store: 'last' is not the chain's last",
-    "store: two entries of one word and tag",
-    "store: tag of 128 or more",
-    "store: word over 47 bytes",
-    "store: word with a high byte",
-    "store: word with a capital",
-    "store: bytes past a word",
-    "store: over 24 phones",
-    "store: bytes 52 to 63 of a slot",
-    "store: phone over 15 bytes",
-    "store: phone with a high byte",
-    "store: bytes past a phone",
-    "store: bytes past the phones' count",
-    "store: bytes 448 to 511 of a slot",
-];
-
 /// Whether a store's length is right.
 pub fn has_length(len: usize) -> bool {
     len % SLOT == 0 && (SLOT..=LARGEST).contains(&len)
@@ -77,76 +52,81 @@ pub fn has_length(len: usize) -> bool {
 
 /// The entries of a sound store, the oldest first; of any other store, what is amiss.
 pub fn read(store: &[u8]) -> Result<Vec<Placed>, &'static str> {
-    ensure(has_length(store.len()), "store: wrong length")?;
+    of_head(store)?;
     let slots: Vec<&[u8]> = store.chunks(SLOT).collect();
     let [first, last, used] = [0, 2, 4].map(|at| number(&slots[0][at..]));
-    ensure(
-        zeros(&slots[0][HEAD_END..]),
-        "store: bytes beside slot 0's fields",
-    )?;
-    ensure(used < slots.len(), "store: more used than there are slots")?;
     let mut seen = vec![false; slots.len()];
     let mut chain = vec![];
     let mut at = first;
     while at != 0 {
-        ensure(at <= used, "store: chain leaves the used slots")?;
-        ensure(!seen[at], "store: chain comes back to a slot")?;
+        of_link(at, used, &seen)?;
         seen[at] = true;
         let entry = read_slot(slots[at])?;
         chain.push(Placed { slot: at, entry });
         at = number(slots[at]);
     }
-    ensure(chain.len() >= used, "store: chain misses a used slot")?;
-    ensure(
-        chain.last().map_or(0, |placed| placed.slot) == last,
-        "store: 'last' is not the chain's last",
-    )?;
-    let mut keys: Vec<_> = chain.iter().map(|placed| placed.entry.key()).collect();
-    keys.sort();
-    let differ = keys.windows(2).all(|pair| pair[0] != pair[1]);
-    ensure(differ, "store: two entries of one word and tag")?;
+    of_chain(&chain, last, used)?;
     Ok(chain)
 }
 
 fn read_slot(slot: &[u8]) -> Result<Entry, &'static str> {
-    let tag = slot[TAG];
-    let len = usize::from(slot[WORD_LEN]);
-    let count = usize::from(slot[COUNT]);
-    ensure(tag <= 127, "store: tag of 128 or more")?;
-    ensure(len <= words::LONGEST, "store: word over 47 bytes")?;
-    let (word, past) = slot[WORD..WORD_END].split_at(len);
-    ensure(word.is_ascii(), "store: word with a high byte")?;
-    ensure(
-        !word.iter().any(u8::is_ascii_uppercase),
-        "store: word with a capital",
-    )?;
-    ensure(zeros(past), "store: bytes past a word")?;
-    ensure(count <= MOST_PHONES, "store: over 24 phones")?;
-    ensure(
-        zeros(&slot[COUNT + 1..PHONES]),
-        "store: bytes 52 to 63 of a slot",
-    )?;
-    let (cells, past) = slot[PHONES..PHONES_END].split_at(CELL * count);
-    let phones: Result<_, _> = cells.chunks(CELL).map(read_phone).collect();
-    ensure(zeros(past), "store: bytes past the phones' count")?;
-    ensure(
-        zeros(&slot[PHONES_END..]),
-        "store: bytes 448 to 511 of a slot",
-    )?;
+    of_slot(slot)?;
+    let cells = slot[PHONES..].chunks(CELL).take(slot[COUNT].into());
+    let phone = |bytes: &[u8]| of_phone(bytes).map(|()| bytes[1..][..bytes[0].into()].to_vec());
     Ok(Entry {
-        tag,
-        word: word.to_vec(),
-        phones: phones?,
+        tag: slot[TAG],
+        word: slot[WORD..][..slot[WORD_LEN].into()].to_vec(),
+        phones: cells.map(phone).collect::<Result<_, _>>()?,
     })
 }
 
-fn read_phone(bytes: &[u8]) -> Result<Vec<u8>, &'static str> {
-    let bytes: &[u8; CELL] = bytes.try_into().expect("a chunk is a cell");
-    let phone = text(bytes);
-    ensure(!is_over(bytes), "store: phone over 15 bytes")?;
-    ensure(phone.is_ascii(), "store: phone with a high byte")?;
-    ensure(cell(phone) == *bytes, "store: bytes past a phone")?;
-    Ok(phone.to_vec())
+checks! { pub UNSOUND:
+    /// A store's length, and its slot 0.
+    of_head(store: &[u8]) [
+        "store: wrong length" => has_length(store.len()),
+        "store: bytes beside slot 0's fields" => zeros(&store[HEAD_END..SLOT]),
+        "store: more used than there are slots" => unused(store) <= store.len(),
+    ]
+
+    /// A slot that the chain leads to.
+    of_link(at: usize, used: usize, seen: &[bool]) [
+        "store: chain leaves the used slots" => at <= used,
+        "store: chain comes back to a slot" => !seen[at],
+    ]
+
+    /// The chain as a whole.
+    of_chain(chain: &[Placed], last: usize, used: usize) {
+        let mut keys: Vec<_> = chain.iter().map(|placed| placed.entry.key()).collect();
+        keys.sort();
+    } [
+        "store: chain misses a used slot" => chain.len() >= used,
+        "store: 'last' is not the chain's last" => chain.last().map_or(0, |placed| placed.slot) == last,
+        "store: two entries of one word and tag" => keys.windows(2).all(|two| two[0] != two[1]),
+    ]
+
+    /// A used slot.
+    of_slot(slot: &[u8]) {
+        let (len, count) = (usize::from(slot[WORD_LEN]), usize::from(slot[COUNT]));
+    } [
+        "store: tag of 128 or more" => slot[TAG] <= 127,
+        "store: word over 47 bytes" => len <= words::LONGEST,
+        "store: word with a high byte" => slot[WORD..][..len].is_ascii(),
+        "store: word with a capital" => !slot[WORD..][..len].iter().any(u8::is_ascii_uppercase),
+        "store: bytes past a word" => zeros(&slot[WORD + len..WORD_END]),
+        "store: over 24 phones" => count <= MOST_PHONES,
+        "store: bytes 52 to 63 of a slot" => zeros(&slot[COUNT + 1..PHONES]),
+        "store: bytes past the phones' count" => zeros(&slot[PHONES + CELL * count..PHONES_END]),
+        "store: bytes 448 to 511 of a slot" => zeros(&slot[PHONES_END..]),
+    ]
+
+    /// A phone of an entry.
+    of_phone(bytes: &[u8]) {
+        let len = usize::from(bytes[0]);
+    } [
+        "store: phone over 15 bytes" => len < CELL,
+        "store: phone with a high byte" => bytes[1..][..len].is_ascii(),
+        "store: bytes past a phone" => zeros(&bytes[1 + len..]),
+    ]
 }
 
 /// The store with these entries, the oldest first, in their slots, which are 1 to so many. Slots past

@@ -2,6 +2,31 @@
 
 use crate::random::Random;
 
+/// Three sections as bytes: a phone table, an index, and what it leads to.
+macro_rules! sections {
+    ($front:literal: $data:ident) => {
+        #[derive(Clone, PartialEq)]
+        pub struct Sections {
+            pub phones: Vec<u8>,
+            pub index: Vec<u8>,
+            pub $data: Vec<u8>,
+        }
+
+        impl Sections {
+            pub fn parts(&self) -> [Part<'_>; 3] {
+                let data = concat!($front, ".", stringify!($data));
+                [
+                    Part::read(concat!($front, ".phones"), Form::PhoneTable, &self.phones),
+                    Part::read(concat!($front, ".index"), Form::Bytes, &self.index),
+                    Part::read(data, Form::Bytes, &self.$data),
+                ]
+            }
+        }
+
+        smaller!(Sections: $data, index, phones);
+    };
+}
+
 /// The strings of a phone table that has 01's form.
 pub fn phone_names(table: &[u8]) -> Option<Vec<Vec<u8>>> {
     let count = u32::from_le_bytes(table.get(..4)?.try_into().ok()?);
@@ -54,13 +79,13 @@ pub fn limits(good: &[u8]) -> Vec<Vec<u8>> {
 
 /// The names of a table.
 pub fn names(random: &mut Random, name: impl Fn(&mut Random) -> Vec<u8>) -> Vec<Vec<u8>> {
-    let count = match random.weighted(&[1, 2, 12, 8, 2]) {
-        0 => 0,
-        1 => 1,
-        2 => random.between(2, 12),
-        3 => random.between(13, 80),
-        _ => 256,
-    };
+    let count = random.ranged(&[
+        (1, 0, 0),
+        (2, 1, 1),
+        (12, 2, 12),
+        (8, 13, 80),
+        (2, 256, 256),
+    ]);
     (0..count).map(|_| name(random)).collect()
 }
 
@@ -80,6 +105,16 @@ pub fn break_form(random: &mut Random, table: &mut Vec<u8>, names: usize, way: u
             let at = random.below(table.len() + 1);
             put(table, at, &[128 + random.below(128) as u8]);
         }
+    }
+}
+
+/// Alters a few bytes of sections, each of them as often as its weight says, within its first so many bytes.
+pub fn alter(random: &mut Random, mut sections: [(usize, &mut Vec<u8>, usize); 3]) {
+    for _ in 0..random.between(1, 6) {
+        let byte = [random.byte()];
+        let weights = sections.each_ref().map(|section| section.0);
+        let (_, section, len) = &mut sections[random.weighted(&weights)];
+        put(section, random.below(*len), &byte);
     }
 }
 

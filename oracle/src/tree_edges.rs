@@ -1,9 +1,9 @@
 //! Letter trees for the short inputs: sections at 01's limits and just past them.
 
+use crate::prelude::*;
 use crate::tables::{self, phone_table};
 use crate::tree_shapes::{model, sections, Node};
-use crate::trees::{Sections, Trees, LONGEST_MODEL, NODE};
-use std::rc::Rc;
+use crate::trees::{Sections, LONGEST_MODEL, NODE};
 
 /// Trees of one node, whose leaf is this phone.
 pub fn one_leaf(name: &[u8]) -> Trees {

@@ -341,14 +341,8 @@ fn break_one(random: &mut Random, sections: &mut Sections, names: usize) {
         }
         10 => put(model, node, &[255, names.min(255) as u8]),
         _ => {
-            for _ in 0..random.between(1, 6) {
-                let byte = [random.byte()];
-                match random.below(3) {
-                    0 => put(phones, random.below(600), &byte),
-                    1 => put(index, random.below(INDEX), &byte),
-                    _ => put(model, random.below(NODE * nodes + 1), &byte),
-                }
-            }
+            let model = (1, model, NODE * nodes + 1);
+            tables::alter(random, [(1, phones, 600), (1, index, INDEX), model]);
         }
     }
 }

@@ -1,8 +1,7 @@
 //! The sections of the letter trees: their form by 01, the walk that tells damage, and the original's reading.
 
 use crate::forever::{hold, Held};
-use crate::lent::Part;
-use crate::notation::Form;
+use crate::prelude::*;
 use crate::records::number;
 use crate::tables::phone_names;
 use original::lexicon::Lts;
@@ -14,25 +13,7 @@ pub const LONGEST_MODEL: usize = 393_216;
 /// Bytes of lts.index that must be there.
 pub const INDEX: usize = 52;
 
-/// The three sections as bytes.
-#[derive(Clone)]
-pub struct Sections {
-    pub phones: Vec<u8>,
-    pub index: Vec<u8>,
-    pub model: Vec<u8>,
-}
-
-impl Sections {
-    pub fn parts(&self) -> [Part<'_>; 3] {
-        [
-            Part::read("lts.phones", Form::PhoneTable, &self.phones),
-            Part::read("lts.index", Form::Bytes, &self.index),
-            Part::read("lts.model", Form::Bytes, &self.model),
-        ]
-    }
-}
-
-smaller!(Sections: phones, model);
+sections!("lts": model);
 
 /// Sections, what 01 says of them, and what words to try on them.
 pub struct Trees {

@@ -1,8 +1,6 @@
 //! Words: over an alphabet, of every length; and their tags.
 
-use crate::lent::Part;
-use crate::notation::Form;
-use crate::random::Random;
+use crate::prelude::*;
 
 /// The longest word that 01 accepts.
 pub const LONGEST: usize = 47;
@@ -72,12 +70,12 @@ pub fn is_refused(word: &[u8]) -> bool {
 
 /// A word that 01 accepts; most are short.
 pub fn accepted(random: &mut Random, alphabet: &[u8]) -> Vec<u8> {
-    let len = match random.weighted(&[24, 6, 1, 1]) {
-        0 => random.between(1, 10),
-        1 => random.between(1, LONGEST),
-        2 => LONGEST,
-        _ => 0,
-    };
+    let len = random.ranged(&[
+        (24, 1, 10),
+        (6, 1, LONGEST),
+        (1, LONGEST, LONGEST),
+        (1, 0, 0),
+    ]);
     // now and then a letter that the tables do not ask for
     let wild = random.once_in(4);
     let mut letter = |_| match wild && random.once_in(5) {
@@ -195,6 +193,16 @@ pub fn edges() -> Vec<Vec<u8>> {
     words.push(vec![0]);
     words.push([&[b'a'; 47][..], &[200]].concat());
     words
+}
+
+/// Words at 01's limits without a tag, and some words with tags at them.
+pub fn limits(words: &[&str]) -> Vec<Wanted> {
+    let without = edges().into_iter().map(|word| Wanted::new(word, ""));
+    let with = each! {
+        for tag in tags();
+        words.iter().map(|word| Wanted::new(*word, &tag[..]))
+    };
+    without.chain(with).collect()
 }
 
 rows! { pub WORD:

@@ -56,7 +56,8 @@ impl Call for AddEntries {
     const MET: Table = &[
         rule::ROWS,
         &[&["spare of another length", "7: 25 phones"]],
-        &[STORE_ORDER, UNSOUND],
+        &[STORE_ORDER],
+        UNSOUND,
     ];
     const LIBRARY: Function = ours::add_entries;
 
@@ -122,18 +123,14 @@ impl Call for AddEntries {
 
     fn record(&self, random: &mut Random, cases: usize) -> Vec<String> {
         let sets = 30;
-        let mut lines = vec![];
-        for set in 0..sets {
+        record::sets("lines of text", sets, |set| {
             let names: Vec<Vec<u8>> = (0..4).map(|_| self.phones.phone(random)).collect();
-            let lexicon = Rc::new(Lexicon::of(&names, &[]));
             let slots = [2, 3, 4, 5, 6, 9][set % 6];
             let store = stores::new(slots, random.byte());
-            lines.push(format!("# lines of text {} of {sets}", set + 1));
             let made = |scene: &Rc<Scene>| self.to_record(random, scene);
-            let scene = Rc::new(Scene::new(&lexicon, store));
-            lines.extend(adding::record(self, scene, cases.div_ceil(sets), made));
-        }
-        lines
+            let scene = Scene::of(Lexicon::of(&names, &[]), store);
+            adding::record(self, scene, cases.div_ceil(sets), made)
+        })
     }
 }
 

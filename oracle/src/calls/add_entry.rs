@@ -12,13 +12,7 @@ use rule::{added, refusal, refused_by_the_original};
 /// How many adds a lexicon and its store serve.
 const ADDS: usize = 60;
 
-#[derive(Clone)]
-pub struct Input {
-    pub scene: Rc<Scene>,
-    pub given: Add,
-}
-
-smaller!(Input: scene, given);
+input!(scene: Rc<Scene>, given: Add);
 
 #[derive(Default)]
 pub struct AddEntry {
@@ -39,7 +33,8 @@ impl Call for AddEntry {
         words::WORD,
         cells::PHONES,
         cells::UNREAD,
-        &[STORE_ORDER, UNSOUND],
+        &[STORE_ORDER],
+        UNSOUND,
     ];
     const LIBRARY: Function = ours::add_entry;
 
@@ -49,10 +44,8 @@ impl Call for AddEntry {
 
     fn random(&mut self, random: &mut Random) -> Input {
         let Pool { scene, words } = self.pool.next(|| begin(random, &self.phones));
-        let mut input = Input {
-            given: given(random, scene, words, &self.phones),
-            scene: scene.clone(),
-        };
+        let given = given(random, scene, words, &self.phones);
+        let mut input = Input::new(scene.clone(), given);
         spoil(random, &mut input.given, &self.phones);
         let outcome = self.expected(&input).outcome;
         adding::go_on(&mut self.pool, outcome, 4);
@@ -74,8 +67,7 @@ impl Call for AddEntry {
         let (list, store) = added(input)?;
         let key = key(&given.wanted.word, &given.wanted.tag);
         let before = scene.entries();
-        let same = |entry: &Entry| entry.key() == (&key.0[..], key.1);
-        let row = match before.iter().position(|placed| same(&placed.entry)) {
+        let row = match before.iter().position(|placed| placed.entry.key() == key) {
             None => {
                 met.all(rule::of_new(scene, &key.0, list.len()));
                 "new key"
@@ -102,19 +94,16 @@ impl Call for AddEntry {
 
     fn record(&self, random: &mut Random, cases: usize) -> Vec<String> {
         let sets = 30;
-        let mut lines = vec![];
-        for set in 0..sets {
+        record::sets("runtime entries", sets, |set| {
             let lexicon = Rc::new(table_to_record(random, &self.phones));
             let words: Vec<Vec<u8>> = (0..4).map(|_| short_word(random)).collect();
             // a store that fills at once, some that fill soon, and one that has room for all
             let slots = [2, 3, 4, 5, 5, 6, 6, 7, 8, 15][set % 10];
             let store = stores::new(slots, random.byte());
-            lines.push(format!("# runtime entries {} of {sets}", set + 1));
             let made = |scene: &Rc<Scene>| self.to_record(random, scene, &words);
             let scene = Rc::new(Scene::new(&lexicon, store));
-            lines.extend(adding::record(self, scene, cases.div_ceil(sets), made));
-        }
-        lines
+            adding::record(self, scene, cases.div_ceil(sets), made)
+        })
     }
 }
 
@@ -135,10 +124,7 @@ impl AddEntry {
             }
             let rest = random.between(1, CELL - 1) * usize::from(random.once_in(12));
             given.phones.rest = vec![random.byte(); rest];
-            let input = Input {
-                scene: scene.clone(),
-                given,
-            };
+            let input = Input::new(scene.clone(), given);
             if refusal(&input, &mut Met::default()).is_ok() {
                 return input;
             }
@@ -203,11 +189,8 @@ pub fn spoil(random: &mut Random, given: &mut Add, phones: &Phones) {
         list.rest = random.bytes(rest);
     }
     if random.once_in(16) {
-        let more = match random.weighted(&[4, 2, 1]) {
-            0 => MOST_PHONES + 1,
-            1 => random.between(MOST_PHONES, 40),
-            _ => random.between(90, 130),
-        };
+        let one = MOST_PHONES + 1;
+        let more = random.ranged(&[(4, one, one), (2, MOST_PHONES, 40), (1, 90, 130)]);
         list.cells.resize(more, cell(b"t"));
     }
     if !list.cells.is_empty() {

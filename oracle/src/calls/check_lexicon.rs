@@ -19,11 +19,9 @@ impl Call for CheckLexicon {
     const LIBRARY: Function = ours::check_lexicon;
 
     fn short(&self) -> Vec<Rc<Lexicon>> {
-        let mut inputs = lexicon_edges::small(4);
-        inputs.extend(lexicon_edges::large());
-        inputs.extend(lexicon_edges::limits());
-        inputs.extend(lexicon_edges::altered_bytes());
-        inputs
+        let large = lexicon_edges::large().into();
+        let limits = [lexicon_edges::limits(), lexicon_edges::altered_bytes()];
+        [lexicon_edges::small(4), large, limits.concat()].concat()
     }
 
     fn random(&mut self, random: &mut Random) -> Rc<Lexicon> {

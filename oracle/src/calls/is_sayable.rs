@@ -8,13 +8,7 @@ const WORDS: usize = 40;
 /// The letters of the short words.
 const SHORT: &[u8] = b"anstA#'7";
 
-#[derive(Clone)]
-pub struct Input {
-    machines: Rc<Machines>,
-    word: Vec<u8>,
-}
-
-smaller!(Input: word, machines);
+input!(word: Vec<u8>, machines: Rc<Machines>);
 
 #[derive(Default)]
 pub struct IsSayable {
@@ -33,23 +27,19 @@ impl Call for IsSayable {
 
     fn short(&self) -> Vec<Input> {
         let random = &mut Random::new(7, "short is_sayable");
-        let mut inputs = vec![];
         let mut sets: Vec<Machines> = (0..10).map(|_| machines::to_record(random)).collect();
         sets.extend(edges());
-        for machines in sets.into_iter().map(Rc::new) {
-            for word in words::every(SHORT, 3).into_iter().chain(words::edges()) {
-                let machines = machines.clone();
-                inputs.push(Input { machines, word });
-            }
+        each! {
+            for machines in sets.into_iter().map(Rc::new);
+            for word in words::every(SHORT, 3).into_iter().chain(words::edges());
+            [Input::new(word, machines.clone())]
         }
-        inputs
     }
 
     fn random(&mut self, random: &mut Random) -> Input {
         let made = || (Rc::new(machines::random(random)), WORDS);
         let machines = self.machines.next(made).clone();
-        let word = words::random(random, &machines.alphabet);
-        Input { machines, word }
+        Input::new(words::random(random, &machines.alphabet), machines)
     }
 
     fn rule(&self, input: &Input, met: &mut Met) -> Ruling {
@@ -69,20 +59,18 @@ impl Call for IsSayable {
 
     fn record(&self, random: &mut Random, cases: usize) -> Vec<String> {
         let sets = 8;
-        let mut lines = vec![];
-        for set in 0..sets {
+        record::sets("sayable machines", sets, |set| {
             let machines = Rc::new(machines::to_record(random));
-            lines.push(format!("# sayable machines {} of {sets}", set + 1));
-            lines.extend(registers(3, &machines.parts()));
+            let mut lines = registers(3, &machines.parts());
             for i in 0..cases.div_ceil(sets) {
                 // the edges on a few sets only
                 let edge = set % 4 == 0;
                 let word = words::to_record(random, &machines.alphabet, edge.then_some(i));
-                let machines = machines.clone();
-                lines.push(whole_case(self, &Input { machines, word }, &named([3, 4])));
+                let input = Input::new(word, machines.clone());
+                lines.push(whole_case(self, &input, &named([3, 4])));
             }
-        }
-        lines
+            lines
+        })
     }
 }
 

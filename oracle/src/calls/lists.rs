@@ -85,38 +85,21 @@ impl Input {
     }
 }
 
+/// The rows of a call: its answers, then the refusals that lists meet.
+macro_rules! of_call {
+    ($call:literal: $($answer:literal)*; $($refusal:literal)*) => {
+        &[$(concat!($call, ": ", $answer),)* $(concat!($call, ": refusal ", $refusal)),*]
+    };
+}
+
 /// The calls of lists, by their answers.
-const CALLS: Rows = &[
-    "calls in all",
-    "new_sheet: new",
-    "add_entry: new key",
-    "add_entry: known key",
-    "add_entry: refusal 1",
-    "add_entry: refusal 3",
-    "add_entry: refusal 5",
-    "add_entry: refusal 7",
-    "add_entry: refusal 8",
-    "add_entries: lines taken 0",
-    "add_entries: lines taken 1",
-    "add_entries: lines taken 2 and more",
-    "add_entries: refusal 1",
-    "add_entries: refusal 2",
-    "add_entries: refusal 3",
-    "add_entries: refusal 4",
-    "add_entries: refusal 5",
-    "add_entries: refusal 7",
-    "add_entries: refusal 8",
-    "say_word: runtime",
-    "say_word: addenda",
-    "say_word: compiled",
-    "say_word: letters",
-    "say_word: refusal 1",
-    "say_word: refusal 3",
-    "say_word: refusal 6",
-    "say_word: refusal 7",
-    "say_word: refusal 9",
-    "phone_string: at an utterance's end",
-    "refused call, then an accepted one",
+const CALLS: &[Rows] = &[
+    &["calls in all"],
+    of_call!("new_sheet": "new";),
+    of_call!("add_entry": "new key" "known key"; 1 3 5 7 8),
+    of_call!("add_entries": "lines taken 0" "lines taken 1" "lines taken 2 and more"; 1 2 3 4 5 7 8),
+    of_call!("say_word": "runtime" "addenda" "compiled" "letters"; 1 3 6 7 9),
+    &["phone_string: at an utterance's end", "refused call, then an accepted one"],
 ];
 
 #[derive(Default)]
@@ -138,7 +121,7 @@ impl Call for Lists {
         "lists of 6 to 20 calls",
         "lists of more calls",
     ];
-    const MET: Table = &[&[CALLS], book::ROWS, ROWS];
+    const MET: Table = &[CALLS, book::ROWS, ROWS];
     const LIBRARY: Function = |_| unreachable!("a list is many calls of the library");
 
     fn short(&self) -> Vec<Input> {
@@ -157,12 +140,7 @@ impl Call for Lists {
         };
         let log = self.run(input, &mut beside)?;
         met.all(lengths(input));
-        let row = match input.steps.len() {
-            0 => "lists of no call",
-            1..=5 => "lists of 1 to 5 calls",
-            6..=20 => "lists of 6 to 20 calls",
-            _ => "lists of more calls",
-        };
+        let row = row_of(Self::ANSWERS, &[1, 6, 21], input.steps.len());
         let answer = Answer::accepted(0, input.steps.len());
         Ok(Told::new(answer, row, vec![log]))
     }

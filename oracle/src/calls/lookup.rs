@@ -14,14 +14,7 @@ const WORDS: usize = 40;
 /// The most phones that 01 lets be answered.
 pub const LONGEST: usize = 96;
 
-#[derive(Clone)]
-pub struct Input {
-    scene: Rc<Scene>,
-    wanted: Wanted,
-    room: Room,
-}
-
-smaller!(Input: scene, wanted, room);
+input!(scene: Rc<Scene>, wanted: Wanted, room: Room);
 
 #[derive(Default)]
 pub struct Lookup {
@@ -50,7 +43,8 @@ impl Call for Lookup {
         rule::ROWS,
         rule::WAYS,
         store_edges::STORE,
-        &[OUTPUT_OR_NONE, DAMAGE, UNSOUND],
+        &[OUTPUT_OR_NONE, DAMAGE],
+        UNSOUND,
     ];
     const LIBRARY: Function = ours::lookup;
 
@@ -69,19 +63,12 @@ impl Call for Lookup {
             true => words::random(random, b"abAB'_"),
             false => words::near(random, words),
         };
-        Input {
-            scene,
-            wanted: Wanted::new(word, words::tag(random)),
-            room: Room::random(random, 40),
-        }
+        let wanted = Wanted::new(word, words::tag(random));
+        Input::new(scene, wanted, Room::random(random, 40))
     }
 
     fn rule(&self, input: &Input, met: &mut Met) -> Ruling {
-        let Input {
-            scene,
-            wanted,
-            room,
-        } = input;
+        let (scene, wanted) = (&input.scene, &input.wanted);
         let found = rule(scene, wanted, met)?;
         let (kind, phones) = match &found {
             Some((source, phones)) => (*source as u32, cells(phones)),
@@ -100,7 +87,7 @@ impl Call for Lookup {
         let count = phones.len() / CELL;
         if count > LONGEST {
             *met = Met::default();
-            met.add("7 before 9", room.bytes(phones.len()).len() < phones.len());
+            met.add("7 before 9", input.room.bytes(phones.len()).len() < phones.len());
             return Err(Stop::RefusedBeside(7, phones.len()));
         }
         met.shared(wanted.met());
@@ -128,11 +115,10 @@ impl Call for Lookup {
         lines.push(store(&fixed[0].scene));
         let known = fixed.len();
         lines.extend(fixed.iter().map(recorded));
-        for set in 0..sets {
+        lines.extend(record::sets("lexicon", sets, |_| {
             let shape = lexicon_shapes::to_record(random, &self.phones);
             let lexicon = Rc::new(shape.lexicon);
-            lines.push(format!("# lexicon {} of {sets}", set + 1));
-            lines.extend(registers(0, &lexicon.sections.parts()));
+            let mut lines = registers(0, &lexicon.sections.parts());
             for _ in 0..stores {
                 let scene = store_to_record(random, &lexicon, &shape.words, &self.phones);
                 lines.push(store(&scene));
@@ -142,7 +128,8 @@ impl Call for Lookup {
                     lines.push(recorded(&to_record(random, &scene, &words)));
                 }
             }
-        }
+            lines
+        }));
         lines
     }
 }
@@ -150,18 +137,15 @@ impl Call for Lookup {
 /// An accepted input on this scene; most find something.
 fn to_record(random: &mut Random, scene: &Rc<Scene>, words: &[Vec<u8>]) -> Input {
     loop {
-        let input = Input {
-            scene: scene.clone(),
-            wanted: Wanted::new(words::near(random, words), words::tag(random)),
-            room: Room::to_record(random, 40),
-        };
-        let fits = match rule(scene, &input.wanted, &mut Met::default()) {
+        let wanted = Wanted::new(words::near(random, words), words::tag(random));
+        let room = Room::to_record(random, 40);
+        let fits = match rule(scene, &wanted, &mut Met::default()) {
             Ok(Some((_, phones))) => phones.len() <= LONGEST,
             Ok(None) => random.once_in(3),
             Err(_) => false,
         };
         if fits {
-            return input;
+            return Input::new(scene.clone(), wanted, room);
         }
     }
 }
@@ -192,14 +176,9 @@ fn store_to_record(
 ) -> Rc<Scene> {
     let slots = random.between(1, 7);
     let adds = random.below(2 * slots);
-    let adds: Vec<Add> = (0..adds)
-        .map(|_| {
-            let scene = Scene::new(lexicon, stores::new(1, 0));
-            let mut add = store_shapes::add(random, &scene, words, phones, false);
-            add.phones.cells.truncate(6);
-            add
-        })
-        .collect();
+    let smallest = Scene::new(lexicon, stores::new(1, 0));
+    let add = |_| store_shapes::few_phones(random, &smallest, words, phones);
+    let adds: Vec<Add> = (0..adds).map(add).collect();
     let empty = Scene::new(lexicon, stores::new(slots, random.byte()));
     let store = empty.grown(&adds);
     empty.with_store(match random.once_in(3) {

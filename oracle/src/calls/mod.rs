@@ -1,17 +1,33 @@
 //! The calls that are compared, one module each.
 
-pub mod add_entries;
-pub mod add_entry;
 mod adding;
-pub mod check_lexicon;
-pub mod is_sayable;
-pub mod is_vowel;
-pub mod lists;
-pub mod lookup;
-pub mod new_sheet;
-pub mod new_store;
-pub mod phone_string;
-pub mod predict;
-pub mod say_word;
-pub mod split_stress;
-pub mod syllabify;
+
+use crate::run::{Compared, Runner};
+
+/// The modules of the calls, and all of them with their counts, none of them begun.
+macro_rules! calls {
+    ($($module:ident::$call:ident)*) => {
+        $(pub mod $module;)*
+
+        pub fn all(seed: u64) -> Vec<Box<dyn Compared>> {
+            vec![$(Runner::<$module::$call>::boxed(seed)),*]
+        }
+    };
+}
+
+calls! {
+    predict::Predict
+    syllabify::Syllabify
+    is_sayable::IsSayable
+    is_vowel::IsVowel
+    split_stress::SplitStress
+    check_lexicon::CheckLexicon
+    lookup::Lookup
+    new_store::NewStore
+    add_entry::AddEntry
+    add_entries::AddEntries
+    new_sheet::NewSheet
+    say_word::SayWord
+    phone_string::PhoneString
+    lists::Lists
+}

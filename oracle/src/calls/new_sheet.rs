@@ -4,12 +4,7 @@ use crate::prelude::*;
 use crate::records::filled;
 use crate::sheets::LARGEST;
 
-#[derive(Clone)]
-pub struct Input {
-    pub sheet: Vec<u8>,
-}
-
-smaller!(Input: sheet by sheet_shapes::smaller);
+input!(sheet: Vec<u8> => sheet_shapes::smaller);
 
 #[derive(Default)]
 pub struct NewSheet;
@@ -29,14 +24,13 @@ impl Call for NewSheet {
             sheets.extend([0, 1, ITEM - 1].map(|more| filled(ITEM * items + more)));
         }
         sheets.extend(sheet_edges::limits());
-        sheets.into_iter().map(|sheet| Input { sheet }).collect()
+        sheets.into_iter().map(Input::new).collect()
     }
 
     fn random(&mut self, random: &mut Random) -> Input {
         let items = random.ranged(&[(12, 0, 20), (2, 21, 1_023), (1, 1_022, 1_026)]);
         let more = random.below(ITEM) * random.below(2);
-        let sheet = records::random(random, ITEM * items + more);
-        Input { sheet }
+        Input::new(records::random(random, ITEM * items + more))
     }
 
     fn rule(&self, Input { sheet }: &Input, met: &mut Met) -> Ruling {

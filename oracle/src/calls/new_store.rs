@@ -5,12 +5,7 @@ use crate::prelude::*;
 use crate::records::filled;
 use crate::stores::LARGEST;
 
-#[derive(Clone)]
-pub struct Input {
-    pub store: Vec<u8>,
-}
-
-smaller!(Input: store by store_shapes::smaller);
+input!(store: Vec<u8> => store_shapes::smaller);
 
 #[derive(Default)]
 pub struct NewStore;
@@ -30,14 +25,13 @@ impl Call for NewStore {
             stores.extend([0, 1, SLOT - 1].map(|more| filled(SLOT * slots + more)));
         }
         stores.extend(store_edges::limits());
-        stores.into_iter().map(|store| Input { store }).collect()
+        stores.into_iter().map(Input::new).collect()
     }
 
     fn random(&mut self, random: &mut Random) -> Input {
         let slots = random.ranged(&[(12, 0, 8), (2, 9, 128), (1, 126, 131)]);
         let more = random.below(SLOT) * usize::from(random.once_in(6));
-        let store = records::random(random, SLOT * slots + more);
-        Input { store }
+        Input::new(records::random(random, SLOT * slots + more))
     }
 
     fn rule(&self, Input { store }: &Input, met: &mut Met) -> Ruling {

@@ -4,13 +4,7 @@
 use crate::prelude::*;
 use crate::sheets::{Placed, LARGEST, UNSOUND};
 
-#[derive(Clone)]
-pub struct Input {
-    pub sheet: Vec<u8>,
-    pub room: Room,
-}
-
-smaller!(Input: sheet by sheet_shapes::smaller, room);
+input!(sheet: Vec<u8> => sheet_shapes::smaller, room: Room);
 
 #[derive(Default)]
 pub struct PhoneString {
@@ -28,43 +22,31 @@ impl Call for PhoneString {
         cells::PHONES,
         ROWS,
         sheet_edges::SHEET,
-        &[OUTPUT_OR_NONE, TOO_SHORT, UNSOUND],
+        &[OUTPUT_OR_NONE, TOO_SHORT],
+        UNSOUND,
     ];
     const LIBRARY: Function = ours::phone_string;
 
     fn short(&self) -> Vec<Input> {
-        let mut inputs = vec![];
-        for sheet in sheet_edges::limits()
-            .into_iter()
-            .chain(sheet_edges::small())
-        {
-            let sizes = [
-                Size::Exact,
-                Size::More(1),
-                Size::More(100),
-                Size::Short(1),
-                Size::Short(usize::MAX),
-            ];
-            inputs.extend(sizes.map(|size| input(sheet.clone(), size)));
-        }
-        let altered = [
-            sheet_edges::altered_bytes(),
-            sheet_edges::every_byte(),
-            sheet_edges::flipped(),
-        ];
-        for (i, sheet) in altered.into_iter().flatten().enumerate() {
-            inputs.push(input(sheet, Size::More(i % 2)));
-        }
+        let input = |sheet: &[u8], size: Size| Input::new(sheet.to_vec(), Room::of(size));
+        let limits = each! {
+            for sheet in [sheet_edges::limits(), sheet_edges::small()].concat();
+            for size in [Size::Exact, Size::More(1), Size::More(100), Size::Short(1), Size::Short(usize::MAX)];
+            [input(&sheet, size)]
+        };
+        let altered = [sheet_edges::altered_bytes(), sheet_edges::every_byte()].into_iter();
+        let altered = each! {
+            for (i, sheet) in altered.chain([sheet_edges::flipped()]).flatten().enumerate();
+            [input(&sheet, Size::More(i % 2))]
+        };
         // a sheet of phones alone, as far as there is room
-        let most = LARGEST / ITEM - 3;
-        for phone in ["", "x", "abcdefghijklmno"] {
-            let syllable = format!("0{}", format!(" {phone}").repeat(most));
+        let full = each! {
+            for phone in ["", "x", "abcdefghijklmno"];
+            let syllable = format!("0{}", format!(" {phone}").repeat(LARGEST / ITEM - 3));
             let placed = sheet_edges::in_order(&[sheet_edges::word("w", &[&syllable])]);
-            for size in [Size::Exact, Size::Short(1)] {
-                inputs.push(input(sheet_edges::sheet(&placed, 0, 0), size));
-            }
-        }
-        inputs
+            [Size::Exact, Size::Short(1)].map(|size| input(&sheet_edges::sheet(&placed, 0, 0), size))
+        };
+        [limits, altered, full].concat()
     }
 
     fn random(&mut self, random: &mut Random) -> Input {
@@ -73,10 +55,7 @@ impl Call for PhoneString {
         if random.once_in(4) {
             sheet = sheet_shapes::damaged(random, &sheet);
         }
-        Input {
-            sheet,
-            room: Room::random(random, 40),
-        }
+        Input::new(sheet, Room::random(random, 40))
     }
 
     fn rule(&self, input: &Input, met: &mut Met) -> Ruling {
@@ -86,11 +65,7 @@ impl Call for PhoneString {
         let phones = words.iter().flat_map(|placed| placed.word.phones());
         let phones: Vec<&[u8]> = phones.map(|phone| &phone[..]).collect();
         let text = spoken::phone_string(&phones)?.into_bytes();
-        let row = match text.len() {
-            0 => "no bytes",
-            1..=20 => "bytes 1 to 20",
-            _ => "bytes 21 and more",
-        };
+        let row = row_of(Self::ANSWERS, &[1, 21], text.len());
         met.all(cells::of_phones(&phones));
         met.all(features(&words, &phones));
         met.all(sheet_edges::features(&input.sheet, &words));
@@ -120,18 +95,9 @@ impl PhoneString {
             let from = sheets::unused(&sheet);
             let fill = random.byte();
             let behind = vec![fill; sheet.len() - from];
-            return Input {
-                sheet: [&sheet[..from], &behind].concat(),
-                room: Room::to_record(random, 20),
-            };
+            let sheet = [&sheet[..from], &behind].concat();
+            return Input::new(sheet, Room::to_record(random, 20));
         }
-    }
-}
-
-fn input(sheet: Vec<u8>, size: Size) -> Input {
-    Input {
-        sheet,
-        room: Room::of(size),
     }
 }
 

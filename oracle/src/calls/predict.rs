@@ -8,14 +8,7 @@ const WORDS: usize = 40;
 /// The letters of the short words.
 const SHORT: &[u8] = b"abzA#'0-";
 
-#[derive(Clone)]
-pub struct Input {
-    trees: Rc<Trees>,
-    word: Vec<u8>,
-    room: Room,
-}
-
-smaller!(Input: word, word by plainer, room, trees);
+input!(word: Vec<u8> => fewer_or_plainer, room: Room, trees: Rc<Trees>);
 
 #[derive(Default)]
 pub struct Predict {
@@ -50,14 +43,12 @@ impl Call for Predict {
             .collect();
         sets.push(Rc::new(tree_edges::one_leaf(b"x-y-z")));
         sets.push(Rc::new(tree_edges::one_leaf(b"-")));
-        let mut inputs = vec![];
-        for (i, trees) in sets.iter().enumerate() {
-            for word in words::every(SHORT, 3).into_iter().chain(words::edges()) {
-                inputs.push(input(trees, word, Size::More(i % 3)));
-            }
-        }
-        inputs.extend(edges());
-        inputs
+        let short = each! {
+            for (i, trees) in sets.iter().enumerate();
+            for word in words::every(SHORT, 3).into_iter().chain(words::edges());
+            [input(trees, word, Size::More(i % 3))]
+        };
+        [short, edges()].concat()
     }
 
     fn random(&mut self, random: &mut Random) -> Input {
@@ -74,11 +65,7 @@ impl Call for Predict {
         if trees.nodes() > 10_000 {
             word.truncate(3);
         }
-        Input {
-            trees,
-            word,
-            room: Room::random(random, 40),
-        }
+        Input::new(word, Room::random(random, 40), trees)
     }
 
     fn rule(&self, input: &Input, met: &mut Met) -> Ruling {
@@ -89,12 +76,7 @@ impl Call for Predict {
         let stressed = phones.iter().any(|p| p.ends_with(['0', '1']));
         met.add("phone with a stress", stressed);
         met.all(cells::of_phones(&phones));
-        let row = match phones.len() {
-            0 => "phones 0",
-            1..=5 => "phones 1 to 5",
-            6..=47 => "phones 6 to 47",
-            _ => "phones 48 to 94",
-        };
+        let row = row_of(Self::ANSWERS, &[1, 6, 48], phones.len());
         let answer = Answer::accepted(0, phones.len());
         Ok(Told::new(answer, row, vec![cells(&phones)]))
     }
@@ -108,32 +90,23 @@ impl Call for Predict {
 
     fn record(&self, random: &mut Random, cases: usize) -> Vec<String> {
         let sets = 12;
-        let mut lines = vec![];
-        for set in 0..sets {
+        record::sets("letter trees", sets, |set| {
             let trees = Rc::new(tree_shapes::to_record(random, set));
-            lines.push(format!("# letter trees {} of {sets}", set + 1));
-            lines.extend(registers(0, &trees.sections.parts()));
+            let mut lines = registers(0, &trees.sections.parts());
             for i in 0..cases.div_ceil(sets) {
                 // the edges on a few sets only
                 let edge = set % 5 == 4;
-                let input = Input {
-                    trees: trees.clone(),
-                    word: words::to_record(random, &trees.alphabet, edge.then_some(i)),
-                    room: Room::to_record(random, 40),
-                };
+                let word = words::to_record(random, &trees.alphabet, edge.then_some(i));
+                let input = Input::new(word, Room::to_record(random, 40), trees.clone());
                 lines.push(whole_case(self, &input, &named(0..3)));
             }
-        }
-        lines
+            lines
+        })
     }
 }
 
 fn input(trees: &Rc<Trees>, word: impl Into<Vec<u8>>, size: Size) -> Input {
-    Input {
-        trees: trees.clone(),
-        word: word.into(),
-        room: Room::of(size),
-    }
+    Input::new(word.into(), Room::of(size), trees.clone())
 }
 
 /// The refusal that 01 gives before an output matters, if it gives one. Tells what the walks met.
@@ -163,32 +136,31 @@ pub fn refusal(trees: &Trees, given: &[u8], met: &mut Met) -> Result<(), u32> {
 
 /// Words on sections at 01's limits.
 fn edges() -> Vec<Input> {
-    let mut inputs = vec![];
-    for trees in &tree_edges::limits() {
-        for word in ["", "a#", "7", "a", "ab", "ba", "aab"] {
-            for size in [Size::Exact, Size::More(1), Size::Short(1), Size::Short(16)] {
-                inputs.push(input(trees, word, size));
-            }
-        }
-        // a lower refusal goes before a higher one
-        inputs.push(input(trees, vec![b'a'; 48], Size::Short(1)));
-        inputs.push(input(trees, vec![200], Size::More(3)));
-    }
+    let limits = tree_edges::limits();
+    let sizes = each! {
+        for trees in &limits;
+        for word in ["", "a#", "7", "a", "ab", "ba", "aab"];
+        [Size::Exact, Size::More(1), Size::Short(1), Size::Short(16)].map(|size| input(trees, word, size))
+    };
+    // a lower refusal goes before a higher one
+    let ranks = each! {
+        for trees in &limits;
+        [input(trees, [b'a'; 48], Size::Short(1)), input(trees, [200], Size::More(3))]
+    };
     let random = &mut Random::new(7, "deepest");
-    for leaves in [1, 2, 40] {
+    let deepest = each! {
+        for leaves in [1, 2, 40];
         let deepest = Rc::new(tree_shapes::deepest(random, leaves));
-        for letter in b'a'..=b'z' {
-            inputs.push(input(&deepest, vec![letter], Size::Exact));
-        }
-    }
-    inputs
+        (b'a'..=b'z').map(|letter| input(&deepest, [letter], Size::Exact))
+    };
+    [sizes, ranks, deepest].concat()
 }
 
-/// Words with one letter made an "a".
-fn plainer(word: &[u8]) -> Vec<Vec<u8>> {
+/// Words with letters left out, or one letter made an "a".
+fn fewer_or_plainer(word: &Vec<u8>) -> Vec<Vec<u8>> {
     let others = (0..word.len()).filter(|i| word[*i] != b'a');
     let plain = |i: usize| [&word[..i], b"a", &word[i + 1..]].concat();
-    others.map(plain).collect()
+    word.smaller().into_iter().chain(others.map(plain)).collect()
 }
 
 rows! { ROWS:

@@ -12,15 +12,7 @@ use rule::{origin, Origin};
 /// How many words a lexicon, its store and its trees serve.
 const WORDS: usize = 40;
 
-#[derive(Clone)]
-pub struct Input {
-    pub scene: Rc<Scene>,
-    pub trees: Rc<Trees>,
-    pub sheet: Vec<u8>,
-    pub wanted: Wanted,
-}
-
-smaller!(Input: sheet by sheet_shapes::smaller, scene, trees, wanted);
+input!(sheet: Vec<u8> => sheet_shapes::smaller, scene: Rc<Scene>, trees: Rc<Trees>, wanted: Wanted);
 
 /// A lexicon with a store, letter trees, and words to try on them.
 struct Sources {
@@ -60,7 +52,8 @@ impl Call for SayWord {
             "6: compiled entry",
             "6: letter tree",
         ]],
-        &[sheets::UNSOUND, stores::UNSOUND],
+        sheets::UNSOUND,
+        stores::UNSOUND,
     ];
     const LIBRARY: Function = ours::say_word;
 
@@ -74,12 +67,9 @@ impl Call for SayWord {
             0 => words::near(random, &sources.words),
             _ => words::random(random, &sources.trees.alphabet),
         };
-        let mut input = Input {
-            scene: sources.scene.clone(),
-            trees: sources.trees.clone(),
-            sheet: sources.sheet.clone(),
-            wanted: Wanted::new(word, words::tag(random)),
-        };
+        let wanted = Wanted::new(word, words::tag(random));
+        let Sources { sheet, scene, trees, .. } = sources;
+        let mut input = Input::new(sheet.clone(), scene.clone(), trees.clone(), wanted);
         if input.sheet.is_empty() || random.once_in(2) {
             let need = on_any_sheet(&input).map_or(5, |word| word.items());
             let unused = match random.weighted(&[6, 5, 4, 2, 1]) {
@@ -144,13 +134,11 @@ impl Call for SayWord {
 
     fn record(&self, random: &mut Random, cases: usize) -> Vec<String> {
         let sets = 20;
-        let mut lines = vec![];
-        for set in 0..sets {
+        record::sets("sections", sets, |set| {
             let shape = lexicon_shapes::few_to_record(random, &self.phones);
             let lexicon = Rc::new(shape.lexicon);
             let trees = Rc::new(tree_shapes::few_to_record(random, set));
-            lines.push(format!("# sections {} of {sets}", set + 1));
-            lines.extend(registers(0, &lexicon.sections.parts()));
+            let mut lines = registers(0, &lexicon.sections.parts());
             lines.extend(registers(3, &trees.sections.parts()));
             let mut left = cases.div_ceil(sets);
             while left > 0 {
@@ -162,8 +150,8 @@ impl Call for SayWord {
                 left -= utterance.len();
                 lines.extend(self.recorded(random, &utterance));
             }
-        }
-        lines
+            lines
+        })
     }
 }
 
@@ -222,8 +210,7 @@ impl SayWord {
         let count = random.between(1, most);
         while inputs.len() < count {
             if random.once_in(2) && stores::room(&scene.store) > 0 {
-                let mut add = store_shapes::add(random, &scene, words, &self.phones, false);
-                add.phones.cells.truncate(6);
+                let add = store_shapes::few_phones(random, &scene, words, &self.phones);
                 scene = scene.with_store(scene.grown(&[add]));
             }
             let entries = scene.entries();
@@ -232,12 +219,8 @@ impl SayWord {
                 1 => words::accepted(random, &trees.alphabet),
                 _ => entries[random.below(entries.len())].entry.word.clone(),
             };
-            let input = Input {
-                scene: scene.clone(),
-                trees: trees.clone(),
-                sheet: vec![],
-                wanted: Wanted::new(word, words::tag(random)),
-            };
+            let wanted = Wanted::new(word, words::tag(random));
+            let input = Input::new(vec![], scene.clone(), trees.clone(), wanted);
             // few long ones
             let longest = if random.once_in(30) { 40 } else { 12 };
             match on_any_sheet(&input) {
@@ -277,10 +260,7 @@ impl SayWord {
             lines.push(register(at, Form::Sheet, &sheet));
             lines.push(format!("{case} ${at}"));
         }
-        let input = phone_string::Input {
-            sheet,
-            room: Room::to_record(random, 20),
-        };
+        let input = phone_string::Input::new(sheet, Room::to_record(random, 20));
         let call = phone_string::PhoneString::default();
         lines.push(whole_case(&call, &input, &named([at])));
         lines

@@ -1,17 +1,12 @@
 //! syllabify: the marks after the phones of a list.
 
+use crate::phones::REHEARSED;
 use crate::prelude::*;
 
 /// The longest list that 01 accepts.
 const LONGEST: usize = 96;
 
-#[derive(Clone)]
-pub struct Input {
-    list: List,
-    room: Room,
-}
-
-smaller!(Input: list, room);
+input!(list: List, room: Room);
 
 #[derive(Default)]
 pub struct Syllabify {
@@ -31,7 +26,7 @@ impl Call for Syllabify {
         "7 syllables and more",
     ];
     const REFUSALS: &'static [u32] = &[3, 7, 9];
-    const MET: Table = &[&[PLACES, OUTPUT], cells::PHONES, ROWS, cells::UNREAD];
+    const MET: Table = &[&[OUTPUT], cells::PHONES, ROWS, cells::UNREAD];
     const LIBRARY: Function = ours::syllabify;
 
     fn short(&self) -> Vec<Input> {
@@ -43,12 +38,9 @@ impl Call for Syllabify {
     }
 
     fn random(&mut self, random: &mut Random) -> Input {
-        let len = match random.weighted(&[40, 6, 1, 1]) {
-            0 => random.between(0, 12),
-            1 => random.between(0, LONGEST),
-            2 => LONGEST,
-            _ => random.between(LONGEST + 1, LONGEST + 30),
-        };
+        let accepted = [(40, 0, 12), (6, 0, LONGEST), (1, LONGEST, LONGEST)];
+        let refused = [(1, LONGEST + 1, LONGEST + 30)];
+        let len = random.ranged(&[&accepted[..], &refused].concat());
         let mut list = List::of(&self.phones.list(random, len));
         if random.once_in(6) {
             list.spoil_padding(random);
@@ -65,10 +57,7 @@ impl Call for Syllabify {
             false => 0,
         };
         list.rest = random.bytes(rest);
-        Input {
-            list,
-            room: Room::random(random, 20),
-        }
+        Input::new(list, Room::random(random, 20))
     }
 
     fn rule(&self, input: &Input, met: &mut Met) -> Ruling {
@@ -80,13 +69,8 @@ impl Call for Syllabify {
             .map_err(|refusal| Stop::Refused(refusal, count))?;
         let phones: Vec<&str> = cells.iter().map(|cell| ascii(text(cell))).collect();
         let marks = ask(|| lexicon::syllabify(&phones))?;
-        let row = match marks.iter().filter(|cut| **cut).count() {
-            0 => "marks 0",
-            1 => "one syllable",
-            2 => "2 syllables",
-            3..=6 => "3 to 6 syllables",
-            _ => "7 syllables and more",
-        };
+        let syllables = marks.iter().filter(|cut| **cut).count();
+        let row = row_of(Self::ANSWERS, &[1, 2, 3, 7], syllables);
         met.all(places(&phones, &marks));
         met.all(cells::of_phones(&phones));
         met.all(features(&phones));
@@ -158,106 +142,55 @@ impl Syllabify {
     }
 }
 
-fn input<T: AsRef<[u8]>>(list: &[T], size: Size) -> Input {
-    Input {
-        list: List::of(list),
-        room: Room {
-            fill: 0x39,
-            step: 0,
-            ..Room::of(size)
-        },
-    }
+fn room(size: Size) -> Room {
+    let (fill, step) = (0x39, 0);
+    Room { size, fill, step }
 }
+
+fn input<T: AsRef<[u8]>>(list: &[T], size: Size) -> Input {
+    Input::new(List::of(list), room(size))
+}
+
+/// A cell of a length byte, letters, and a last byte.
+fn odd(len: u8, last: u8) -> Cell {
+    let mut cell = [b'a'; CELL];
+    (cell[0], cell[CELL - 1]) = (len, last);
+    cell
+}
+
+/// Lists beside 01's rehearsed ones, parted by commas.
+const OTHERS: &str = "ae1 t ae1,ae st r ae,pau,pau pau,ng,ae ng,ae ng ae,ae s t r y ae";
 
 /// Lists at 01's limits, just past them, and 01's rehearsed ones.
 fn edges() -> Vec<Input> {
-    let rehearsed = [
-        "",
-        "k ae t",
-        "eh k s t r ax",
-        "s ih ng er",
-        "s t",
-        "t pau aa",
-        "ae t h r ax",
-        "ae t l ax",
-        "ae1 t ae1",
-        "ae st r ae",
-        "pau",
-        "pau pau",
-        "ng",
-        "ae ng",
-        "ae ng ae",
-        "ae s t r y ae",
-    ];
-    let mut inputs: Vec<Input> = vec![];
-    for list in rehearsed {
-        let list: Vec<&str> = list.split_whitespace().collect();
-        for size in [Size::Exact, Size::More(1), Size::More(200), Size::Short(1)] {
-            inputs.push(input(&list, size));
-        }
-    }
-    for len in [95, 96, 97, 98, 200] {
-        for phone in ["ae", "t", "pau", "", "abcdefghijklmno"] {
-            inputs.push(input(&vec![phone; len], Size::Exact));
-            inputs.push(input(&vec![phone; len], Size::Short(1)));
-        }
-    }
-    let plain = |cells: &[Cell]| {
-        let mut input = input::<&str>(&[], Size::Exact);
-        input.list.cells = cells.to_vec();
-        input
+    let rehearsed = each! {
+        for list in REHEARSED.split(',').chain(OTHERS.split(','));
+        let list = list.split_whitespace().collect::<Vec<_>>();
+        [Size::Exact, Size::More(1), Size::More(200), Size::Short(1)].map(|size| input(&list, size))
     };
-    let long = |len: u8, last: u8| {
-        let mut cell = cell(&[b'a'; 15]);
-        cell[0] = len;
-        cell[15] = last;
-        cell
+    let lengths = each! {
+        for len in [95, 96, 97, 98, 200];
+        for phone in ["ae", "t", "pau", "", "abcdefghijklmno"];
+        [Size::Exact, Size::Short(1)].map(|size| input(&vec![phone; len], size))
     };
-    for (len, last) in [
-        (15, b'a'),
-        (16, b'a'),
-        (255, b'a'),
-        (15, 127),
-        (15, 128),
-        (14, 128),
-        (16, 128),
-        (255, 255),
-        (2, 255),
-        (0, 255),
-    ] {
-        inputs.push(plain(&[long(len, last)]));
+    let long = [(15, b'a'), (16, b'a'), (255, b'a'), (15, 127), (15, 128)];
+    let longer = [(14, 128), (16, 128), (255, 255), (2, 255), (0, 255)];
+    let cells = each! {
+        for (len, last) in [long, longer].concat();
+        let odd = odd(len, last);
         // 3 and 7 look at every cell, also past the 96th
-        let mut cells = vec![cell(b"ae"); 97];
-        cells[96] = long(len, last);
-        inputs.push(plain(&cells));
-        inputs.push(plain(&cells[1..]));
-    }
-    for rest in [1, 15] {
-        for len in [0, 1, 96, 97] {
-            let mut input = input(&vec!["ae"; len], Size::Exact);
-            input.list.rest = vec![255; rest];
-            inputs.push(input);
-        }
-    }
-    inputs
+        for before in [0, 96, 95];
+        let cells = [vec![cell(b"ae"); before], vec![odd]].concat();
+        [Input::new(List { cells, rest: vec![] }, room(Size::Exact))]
+    };
+    let rests = each! {
+        for rest in [1, 15];
+        for len in [0, 1, 96, 97];
+        let (cells, rest) = (vec![cell(b"ae"); len], vec![255; rest]);
+        [Input::new(List { cells, rest }, room(Size::Exact))]
+    };
+    [rehearsed, lengths, cells, rests].concat()
 }
-
-/// What decides a place, and whether an onset is an odd one.
-const PLACES: Rows = &[
-    "place: the last",
-    "place: next is pau",
-    "place: no vowel later",
-    "place: no vowel yet",
-    "place: next is a vowel",
-    "place: next is ng",
-    "place: vowel second",
-    "place: vowel third, onset",
-    "place: vowel third, no onset",
-    "place: vowel fourth, onset",
-    "place: vowel fourth, no onset",
-    "place: vowel later still",
-    "onset of phones that are in no table",
-];
 
 /// The rule of 01 that decides each place, by the original's own marks.
 fn places(phones: &[&str], marks: &[bool]) -> Vec<&'static str> {
@@ -268,32 +201,42 @@ fn places(phones: &[&str], marks: &[bool]) -> Vec<&'static str> {
         seen |= vowel[i];
         let rest = &phones[i + 1..];
         let next_vowel = vowel[i + 1..].iter().position(|v| *v);
-        rows.push(match (rest.first(), next_vowel) {
-            (None, _) => "place: the last",
-            (Some(&"pau"), _) => "place: next is pau",
-            (_, None) => "place: no vowel later",
-            _ if !seen => "place: no vowel yet",
-            (_, Some(0)) => "place: next is a vowel",
-            (Some(&"ng"), _) => "place: next is ng",
-            (_, Some(1)) => "place: vowel second",
-            (_, Some(2)) if *cut => "place: vowel third, onset",
-            (_, Some(2)) => "place: vowel third, no onset",
-            (_, Some(3)) if *cut => "place: vowel fourth, onset",
-            (_, Some(3)) => "place: vowel fourth, no onset",
-            _ => "place: vowel later still",
-        });
-        if let (true, true, Some(n @ (2 | 3))) = (seen, *cut, next_vowel) {
-            let in_no_table = |p: &&str| phoneset::phone_id(p).is_none();
-            if rest[0] != "pau" && rest[..n].iter().any(in_no_table) {
-                rows.push("onset of phones that are in no table");
-            }
-        }
+        // the first that is so decides
+        rows.push(place(rest, next_vowel, seen, *cut)[0]);
+        rows.extend(onset(rest, next_vowel.filter(|_| seen && *cut)));
         seen &= !cut;
     }
     rows
 }
 
 rows! { ROWS:
+    /// What may decide a place, in 01's order.
+    place(rest: &[&str], next_vowel: Option<usize>, seen: bool, cut: bool) {
+        let (next, vowel) = (rest.first(), next_vowel);
+    } [
+        "place: the last" => next.is_none(),
+        "place: next is pau" => next == Some(&"pau"),
+        "place: no vowel later" => vowel.is_none(),
+        "place: no vowel yet" => !seen,
+        "place: next is a vowel" => vowel == Some(0),
+        "place: next is ng" => next == Some(&"ng"),
+        "place: vowel second" => vowel == Some(1),
+        "place: vowel third, onset" => vowel == Some(2) && cut,
+        "place: vowel third, no onset" => vowel == Some(2),
+        "place: vowel fourth, onset" => vowel == Some(3) && cut,
+        "place: vowel fourth, no onset" => vowel == Some(3),
+        "place: vowel later still" => true,
+    ]
+
+    /// What an onset before a vowel has, if the place is a cut.
+    onset(rest: &[&str], next_vowel: Option<usize>) {
+        let phones = rest.get(..next_vowel.unwrap_or(0)).unwrap_or_default();
+        let is_onset = (2..=3).contains(&phones.len()) && phones[0] != "pau";
+    } [
+        "onset of phones that are in no table" =>
+            is_onset && phones.iter().any(|p| phoneset::phone_id(p).is_none()),
+    ]
+
     /// What the phones of an accepted list have.
     features(phones: &[&str]) {
         let stressed = |phone: &&str| {

@@ -4,10 +4,7 @@ use super::Input;
 use crate::prelude::*;
 
 pub fn inputs() -> Vec<Input> {
-    let mut inputs = edges();
-    inputs.extend(short_texts());
-    inputs.extend(altered_bytes());
-    inputs
+    [edges(), short_texts(), altered_bytes()].concat()
 }
 
 fn input(scene: &Rc<Scene>, text: impl Into<Vec<u8>>) -> Input {
@@ -20,35 +17,26 @@ fn input(scene: &Rc<Scene>, text: impl Into<Vec<u8>>) -> Input {
 
 /// Every text of up to five bytes over those that the rule tells apart.
 fn short_texts() -> Vec<Input> {
-    let lexicon = Rc::new(Lexicon::of::<&str>(&["a"], &[]));
-    let scene = Rc::new(Scene::new(&lexicon, stores::new(2, 0x22)));
-    let mut inputs = vec![];
-    for text in words::every(b"a:\"\n #b", 5) {
-        inputs.push(input(&scene, text));
-    }
-    for byte in 0..128 {
-        for (before, behind) in [
-            ("a", "b:a"),
-            ("a:a", "a"),
-            ("", "a:a"),
-            ("a:a", ""),
-            ("a n:a\n", ""),
-        ] {
-            let text = [before.as_bytes(), &[byte], behind.as_bytes()].concat();
-            inputs.push(input(&scene, text));
-        }
-    }
-    inputs
+    let scene = Scene::of(Lexicon::of(&["a"], &[]), stores::new(2, 0x22));
+    let every = each! {
+        for text in words::every(b"a:\"\n #b", 5);
+        [input(&scene, text)]
+    };
+    let with_any_byte = each! {
+        for byte in 0..128_u8;
+        [("a", "b:a"), ("a:a", "a"), ("", "a:a"), ("a:a", ""), ("a n:a\n", "")]
+            .map(|(before, behind)| input(&scene, [before.as_bytes(), &[byte], behind.as_bytes()].concat()))
+    };
+    [every, with_any_byte].concat()
 }
 
 /// A store with each of its bytes altered.
 fn altered_bytes() -> Vec<Input> {
-    let lexicon = Rc::new(Lexicon::of(&["k"], &[]));
-    let stores = store_edges::altered_bytes().into_iter();
-    let scenes = stores.map(|store| Rc::new(Scene::new(&lexicon, store)));
-    scenes
-        .map(|scene| input(&scene, b"lead v:k\nnew:k\na n:ae"))
-        .collect()
+    let scene = Scene::of(Lexicon::of(&["k"], &[]), vec![]);
+    each! {
+        for store in store_edges::altered_bytes();
+        [input(&scene.with_store(store), b"lead v:k\nnew:k\na n:ae")]
+    }
 }
 
 /// Tables, stores, spares and texts at 01's limits, and just past them.
@@ -126,11 +114,8 @@ fn edges() -> Vec<Input> {
         }
     }
     // phones that a line can name, and one that it cannot
-    let odd = Rc::new(Lexicon::of(
-        &["b:c", ":", "h", "h#", "\"k\"", "k\x1ct"],
-        &[],
-    ));
-    let scene = Rc::new(Scene::new(&odd, store_edges::good()));
+    let odd = ["b:c", ":", "h", "h#", "\"k\"", "k\x1ct"];
+    let scene = Scene::of(Lexicon::of(&odd, &[]), store_edges::good());
     for text in &texts {
         inputs.push(input(&scene, text.as_bytes()));
     }

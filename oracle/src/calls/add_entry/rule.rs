@@ -20,7 +20,7 @@ pub fn refusal(input: &Input, met: &mut Met) -> Result<(), u32> {
     })?;
     let key = key(&wanted.word, &wanted.tag);
     let entries = scene.entries();
-    let is_known = entries.iter().any(|p| p.entry.key() == (&key.0[..], key.1));
+    let is_known = entries.iter().any(|p| p.entry.key() == key);
     let lacks_room = entries.len() == stores::room(&scene.store) && !is_known;
     let count = cells.len();
     met.refuse(7, count > MOST_PHONES, || by_7(count, lacks_room))?;

@@ -4,11 +4,13 @@ use super::Input;
 use crate::prelude::*;
 
 pub fn inputs(phones: &Phones) -> Vec<Input> {
-    let mut inputs = edges();
-    inputs.extend(small_stores());
-    inputs.extend(single_phones(phones));
-    inputs.extend(altered_bytes());
-    inputs
+    [
+        edges(),
+        small_stores(),
+        single_phones(phones),
+        altered_bytes(),
+    ]
+    .concat()
 }
 
 pub fn input(
@@ -17,91 +19,84 @@ pub fn input(
     tag: impl AsRef<[u8]>,
     phones: &[impl AsRef<[u8]>],
 ) -> Input {
-    Input {
-        scene: scene.clone(),
-        given: Add {
-            wanted: Wanted::new(word.as_ref(), tag.as_ref()),
-            phones: List::of(phones),
-        },
-    }
+    let wanted = Wanted::new(word.as_ref(), tag.as_ref());
+    let phones = List::of(phones);
+    Input::new(scene.clone(), Add { wanted, phones })
 }
 
 /// Every add over two words and some tags, on every store that up to three adds leave, with room and
 /// without.
 fn small_stores() -> Vec<Input> {
     let lexicon = Rc::new(Lexicon::of(&["k", "zz"], &[]));
-    let mut inputs = vec![];
-    for store in store_edges::small(3) {
-        let used = stores::unused(&store);
+    each! {
+        for store in store_edges::small(3);
         // the store as it is, and without its unused slots
-        for store in [store.clone(), store[..used].to_vec()] {
-            let scene = Rc::new(Scene::new(&lexicon, store));
-            for word in ["a", "A", "b", "c"] {
-                for tag in ["", "n", "v", "nil", "0"] {
-                    inputs.push(input(&scene, word, tag, &["zz"]));
-                }
-            }
-        }
+        for len in [store.len(), stores::unused(&store)];
+        let scene = Rc::new(Scene::new(&lexicon, store[..len].to_vec()));
+        for word in ["a", "A", "b", "c"];
+        ["", "n", "v", "nil", "0"].map(|tag| input(&scene, word, tag, &["zz"]))
     }
-    inputs
 }
 
 /// Phones one by one: every short one, beside a table that has some of them and beside one that has none.
 fn single_phones(phones: &Phones) -> Vec<Input> {
     let names = ["", "zz", "ae1", "t", "abcdefghijklmno", "\x7f"];
     let tables = [Lexicon::of(&names, &[]), Lexicon::of::<&str>(&[], &[])];
-    let mut inputs = vec![];
-    for table in tables {
-        let scene = Rc::new(Scene::new(&Rc::new(table), stores::new(2, 0x11)));
-        // of the strings of two bytes, those of letters
-        let two = |phone: &Vec<u8>| phone.len() == 2 && !phone.iter().all(u8::is_ascii_lowercase);
-        for phone in phones.short().iter().filter(|phone| !two(phone)) {
-            inputs.push(input(&scene, "a", "n", &[phone]));
-        }
-        // every length byte, over a known text, over zeros and over a high byte
-        for len in 0..=255 {
-            for (text, last) in [
-                (&b"t"[..], 0),
-                (b"abcdefghijklmno", b'o'),
-                (b"", 0),
-                (b"t", 200),
-            ] {
-                let mut given = cell(text);
-                given[0] = len;
-                given[15] = last;
-                let mut input = input(&scene, "a", "n", &[""]);
-                input.given.phones.cells[0] = given;
-                inputs.push(input);
-            }
-        }
-    }
-    inputs
+    let scenes = tables.map(|table| Scene::of(table, stores::new(2, 0x11)));
+    // of the strings of two bytes, those of letters
+    let two = |phone: &Vec<u8>| phone.len() == 2 && !phone.iter().all(u8::is_ascii_lowercase);
+    let short = each! {
+        for scene in &scenes;
+        for phone in phones.short().iter().filter(|phone| !two(phone));
+        [input(scene, "a", "n", &[phone])]
+    };
+    // every length byte, over a known text, over zeros and over a high byte
+    let lengths = each! {
+        for scene in &scenes;
+        for len in 0..=255;
+        [(&b"t"[..], 0), (b"abcdefghijklmno", b'o'), (b"", 0), (b"t", 200)].map(|(text, last)| {
+            let mut given = cell(text);
+            (given[0], given[15]) = (len, last);
+            with_cells(scene, given)
+        })
+    };
+    [short, lengths].concat()
+}
+
+/// An add with this cell alone.
+fn with_cells(scene: &Rc<Scene>, given: Cell) -> Input {
+    let mut input = input(scene, "a", "n", &[""]);
+    input.given.phones.cells[0] = given;
+    input
+}
+
+/// A phone table of a lexicon, beside a store.
+fn table(lexicon: &Lexicon, store: Vec<u8>) -> Rc<Scene> {
+    let table = Lexicon::of_table(lexicon.sections.phones.clone());
+    Rc::new(Scene::new(&table, store))
 }
 
 /// A store with each of its bytes altered, and a phone table with each of its bytes altered.
 fn altered_bytes() -> Vec<Input> {
     let lexicon = Rc::new(Lexicon::of(&["k"], &[]));
-    let mut inputs = vec![];
-    for (i, store) in store_edges::altered_bytes().into_iter().enumerate() {
-        let scene = Rc::new(Scene::new(&lexicon, store));
+    let stores = each! {
+        for (i, store) in store_edges::altered_bytes().into_iter().enumerate();
         let (word, tag) = [("Lead", "v"), ("b", ""), ("a", "n")][i % 3];
-        inputs.push(input(&scene, word, tag, &["k", "ae"]));
-    }
-    for lexicon in lexicon_edges::altered_bytes() {
-        let table = Lexicon::of_table(lexicon.sections.phones.clone());
-        let scene = Rc::new(Scene::new(&table, store_edges::good()));
-        inputs.push(input(&scene, "a", "n", &["zz", "k"]));
-    }
-    inputs
+        [input(&Rc::new(Scene::new(&lexicon, store)), word, tag, &["k", "ae"])]
+    };
+    let tables = each! {
+        for lexicon in lexicon_edges::altered_bytes();
+        [input(&table(&lexicon, store_edges::good()), "a", "n", &["zz", "k"])]
+    };
+    [stores, tables].concat()
 }
 
 /// Tables, stores, words, tags and lists at 01's limits, and just past them.
 fn edges() -> Vec<Input> {
     let mut inputs = vec![];
     for lexicon in lexicon_edges::limits() {
-        let table = Lexicon::of_table(lexicon.sections.phones.clone());
         for store in [store_edges::good(), stores::new(1, 0), vec![1; 512]] {
-            let scene = Rc::new(Scene::new(&table, store));
+            let scene = table(&lexicon, store);
             let lists: [&[&str]; 5] = [&[], &["k"], &["p"], &[""], &["ppppppppppppppp"]];
             for phones in lists {
                 inputs.push(input(&scene, "lead", "v", phones));
@@ -110,12 +105,11 @@ fn edges() -> Vec<Input> {
             inputs.push(input(&scene, [b'a'; 48], "", &["q"]));
         }
     }
-    let plain = Rc::new(Lexicon::of(&["", "q"], &[]));
     // the last entry again
-    let scene = Rc::new(Scene::new(&plain, store_edges::good()));
-    inputs.push(input(&scene, "LEAD", "vb", &["l", "iy"]));
+    let good = Scene::of(Lexicon::of(&["", "q"], &[]), store_edges::good());
+    inputs.push(input(&good, "LEAD", "vb", &["l", "iy"]));
     for store in store_edges::limits() {
-        let scene = Rc::new(Scene::new(&plain, store));
+        let scene = good.with_store(store);
         for word in words::edges() {
             inputs.push(input(&scene, word, "", &["k"]));
         }

@@ -5,16 +5,10 @@ use crate::prelude::*;
 use crate::sheets::Reading;
 use crate::spoken::Word;
 
-const ANSWER: u8 = b'a';
-const STORE: u8 = b't';
-const SHEET: u8 = b'h';
-const SPARE: u8 = b'p';
-const READING: u8 = b'r';
-const PHONES: u8 = b's';
-
 #[derive(Default)]
 pub struct Log {
     pub bytes: Vec<u8>,
+    calls: usize,
     store: Vec<u8>,
     sheet: Vec<u8>,
 }
@@ -30,19 +24,20 @@ impl Log {
     /// A call: its answer, the spare if it has one, and the store and the sheet where it altered them.
     pub fn call(&mut self, answer: Answer, state: &mut State) {
         if let Some(spare) = state.spare.take() {
-            self.put(SPARE, &spare);
+            self.put("spare", &spare);
         }
-        self.answer(ANSWER, answer, &[]);
+        self.calls += 1;
+        self.put("call", format!("{}: {answer}", self.calls).as_bytes());
         self.state(state);
     }
 
     fn state(&mut self, state: &State) {
         if state.store != self.store {
-            self.put(STORE, &state.store);
+            self.put("store", &state.store);
             self.store = state.store.clone();
         }
         if state.sheet != self.sheet {
-            self.put(SHEET, &state.sheet);
+            self.put("sheet", &state.sheet);
             self.sheet = state.sheet.clone();
         }
     }
@@ -50,29 +45,17 @@ impl Log {
     /// What reading a sheet gave, if it could be read.
     pub fn reading(&mut self, reading: Option<&Reading>) {
         let text = reading.map_or("cannot be read".into(), told);
-        self.put(READING, text.as_bytes());
+        self.put("reads", text.as_bytes());
     }
 
     pub fn phone_string(&mut self, answer: Answer, text: &[u8]) {
-        self.answer(PHONES, answer, text);
+        let text = format!("{answer}, {}", notation::bytes(text));
+        self.put("phone_string", text.as_bytes());
     }
 
-    fn answer(&mut self, what: u8, answer: Answer, text: &[u8]) {
-        let Answer {
-            refusal,
-            kind,
-            value,
-            second,
-            third,
-        } = answer;
-        let numbers = [u64::from(refusal), u64::from(kind), value, second, third];
-        let numbers = numbers.map(u64::to_le_bytes).concat();
-        self.put(what, &[&numbers, text].concat());
-    }
-
-    fn put(&mut self, what: u8, bytes: &[u8]) {
-        self.bytes.push(what);
-        self.bytes.extend((bytes.len() as u32).to_le_bytes());
+    /// Something, behind its name and its length.
+    fn put(&mut self, name: &str, bytes: &[u8]) {
+        self.bytes.extend(format!("{name} {} ", bytes.len()).bytes());
         self.bytes.extend_from_slice(bytes);
     }
 }
@@ -99,32 +82,18 @@ fn told(reading: &Reading) -> String {
 pub fn shown(bytes: &[u8]) -> String {
     let mut text = String::new();
     let mut rest = bytes;
-    let mut calls = 0;
-    while let Some((what, behind)) = rest.split_first() {
-        let (len, behind) = behind.split_at(4);
-        let len = u32::from_le_bytes([len[0], len[1], len[2], len[3]]) as usize;
-        let (part, behind) = behind.split_at(len);
+    while !rest.is_empty() {
+        let mut words = rest.splitn(3, |b| *b == b' ').map(String::from_utf8_lossy);
+        let [name, len] = [0, 1].map(|_| words.next().unwrap_or_default().into_owned());
+        let len: usize = len.parse().expect("a length stands behind each name");
+        let (part, behind) = rest[name.len() + len.to_string().len() + 2..].split_at(len);
         rest = behind;
-        let numbers = || {
-            let number = |b: &[u8]| b.iter().rev().fold(0, |n, b| 256 * n + u64::from(*b));
-            let numbers: Vec<u64> = part[..40].chunks(8).map(number).collect();
-            format!("{} {} {}", numbers[0], numbers[1], numbers[2])
+        let shown = match &name[..] {
+            "store" | "spare" => notation::store(part),
+            "sheet" => notation::sheet(part),
+            _ => String::from_utf8_lossy(part).into(),
         };
-        text += &match *what {
-            ANSWER => {
-                calls += 1;
-                format!("\n    {calls} -> {}", numbers())
-            }
-            STORE => format!("\n      store {}", notation::store(part)),
-            SHEET => format!("\n      sheet {}", notation::sheet(part)),
-            SPARE => format!("\n      spare {}", notation::store(part)),
-            READING => format!("\n      reads {}", String::from_utf8_lossy(part)),
-            _ => format!(
-                "\n      phone_string -> {} {}",
-                numbers(),
-                notation::bytes(&part[40..])
-            ),
-        };
+        text += &format!("\n      {name} {shown}");
     }
     text
 }

@@ -36,12 +36,8 @@ impl Maker {
             1 => random.between(4, 16),
             _ => random.between(16, 40),
         };
-        let slots = match random.weighted(&[40, 240, 60, 1]) {
-            0 => 1,
-            1 => random.between(2, 6),
-            2 => random.between(7, 16),
-            _ => stores::LARGEST / SLOT,
-        };
+        let all = stores::LARGEST / SLOT;
+        let slots = random.ranged(&[(40, 1, 1), (240, 2, 6), (60, 7, 16), (1, all, all)]);
         let bytes = |random: &mut Random, len: usize| match random.once_in(3) {
             true => random.bytes(len),
             false => vec![random.byte() * random.below(2) as u8; len],

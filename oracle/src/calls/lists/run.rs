@@ -64,12 +64,8 @@ pub trait Side {
 impl Lists {
     /// What a side makes of a list, as a log.
     pub fn run<S: Side>(&self, input: &Input, side: &mut S) -> Result<Vec<u8>, String> {
-        let store = new_store::Input {
-            store: input.store.clone(),
-        };
-        let sheet = new_sheet::Input {
-            sheet: input.sheet.clone(),
-        };
+        let store = new_store::Input::new(input.store.clone());
+        let sheet = new_sheet::Input::new(input.sheet.clone());
         let store = side.outcome(&new_store::NewStore, &store)?;
         let sheet = side.outcome(&self.new_sheet, &sheet)?;
         let mut state = State {
@@ -104,14 +100,12 @@ impl Lists {
         let lent = input.lent(step);
         match &step.act {
             Act::NewSheet => {
-                let sheet = state.sheet.clone();
-                made(&self.new_sheet, &new_sheet::Input { sheet }, state, side)
+                let input = new_sheet::Input::new(state.sheet.clone());
+                made(&self.new_sheet, &input, state, side)
             }
             Act::AddEntry(given) => {
-                let input = add_entry::Input {
-                    scene: side.scene(&lent.table, &state.store),
-                    given: given.clone(),
-                };
+                let scene = side.scene(&lent.table, &state.store);
+                let input = add_entry::Input::new(scene, given.clone());
                 made(&self.add_entry, &input, state, side)
             }
             Act::AddText { text, fill, spare } => {
@@ -123,12 +117,9 @@ impl Lists {
                 made(&self.add_text, &input, state, side)
             }
             Act::SayWord(wanted) => {
-                let input = say_word::Input {
-                    scene: side.scene(&lent.lexicon, &state.store),
-                    trees: lent.trees.clone(),
-                    sheet: state.sheet.clone(),
-                    wanted: wanted.clone(),
-                };
+                let scene = side.scene(&lent.lexicon, &state.store);
+                let (sheet, trees) = (state.sheet.clone(), lent.trees.clone());
+                let input = say_word::Input::new(sheet, scene, trees, wanted.clone());
                 made(&self.say_word, &input, state, side)
             }
         }
@@ -222,10 +213,7 @@ impl Side for Library {
     }
 
     fn close(&mut self, sheet: &[u8], log: &mut Log) -> Result<(), String> {
-        let call = phone_string::Input {
-            sheet: sheet.to_vec(),
-            room: Room::PLAIN,
-        };
+        let call = phone_string::Input::new(sheet.to_vec(), Room::PLAIN);
         let outcome = self.outcome(&phone_string::PhoneString::default(), &call)?;
         let written = outcome.written.concat();
         let len = (outcome.answer.value as usize).min(PHONES);
@@ -241,6 +229,6 @@ impl Side for Library {
 /// The row of the table for a call of a list.
 fn row(call: &str, answer: &str) -> &'static str {
     let name = format!("{call}: {answer}");
-    let found = CALLS.iter().find(|row| **row == name);
+    let found = CALLS.iter().copied().flatten().find(|row| **row == name);
     found.unwrap_or_else(|| panic!("the table has no row {name}"))
 }

@@ -55,27 +55,23 @@ pub fn inputs() -> Vec<Input> {
         act: acts[usize::from(*n)].clone(),
         broken: false,
     };
-    let mut inputs = vec![];
-    for (i, numbers) in words::every(&numbers, 4).iter().enumerate() {
+    let steps = |numbers: &[u8]| -> Vec<Step> { numbers.iter().map(step).collect() };
+    let every = each! {
+        for (i, numbers) in words::every(&numbers, 4).iter().enumerate();
         // a sheet that is soon full, and one with room; one slot, or two, that entries can have
-        let len = [9 * ITEM + 5, 40 * ITEM][i % 2];
-        inputs.push(list(numbers.iter().map(step).collect(), 2 + i / 2 % 2, len));
-    }
+        [list(steps(numbers), 2 + i / 2 % 2, [9 * ITEM + 5, 40 * ITEM][i % 2])]
+    };
     // sheets of the shortest and the longest length
-    for len in [ITEM, 2 * ITEM - 1, 2 * ITEM, 4 * ITEM, LARGEST - 1, LARGEST] {
-        for slots in [1, 128] {
-            let steps: Vec<Step> = [4, 3, 1, 2, 1, 0, 3, 5, 2].iter().map(step).collect();
-            inputs.push(list(steps, slots, len));
-        }
-    }
+    let lengths = each! {
+        for len in [ITEM, 2 * ITEM - 1, 2 * ITEM, 4 * ITEM, LARGEST - 1, LARGEST];
+        [1, 128].map(|slots| list(steps(&[4, 3, 1, 2, 1, 0, 3, 5, 2]), slots, len))
+    };
     // words up to the end of the largest sheet, and then others
-    let mut steps: Vec<Step> = vec![step(&1); 340];
-    steps.extend([2, 1, 3, 3, 3, 3, 0, 1].iter().map(step));
-    inputs.push(list(steps, 1, LARGEST));
+    let full = [vec![1; 340], vec![2, 1, 3, 3, 3, 3, 0, 1]].concat();
     // the broken sections in between
-    let mut steps: Vec<Step> = [1, 4, 1, 6, 2].iter().map(step).collect();
-    steps[2].broken = true;
-    steps[3].broken = true;
-    inputs.push(list(steps, 4, 40 * ITEM));
-    inputs
+    let mut broken = steps(&[1, 4, 1, 6, 2]);
+    broken[2].broken = true;
+    broken[3].broken = true;
+    let ends = [list(steps(&full), 1, LARGEST), list(broken, 4, 40 * ITEM)];
+    [every, lengths, ends.into()].concat()
 }

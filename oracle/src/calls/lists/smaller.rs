@@ -8,20 +8,13 @@ smaller!(Step: act, broken by whole);
 
 fn shorter_sheet(sheet: &[u8]) -> Vec<Vec<u8>> {
     let len = sheet.len();
-    let mut lengths = vec![ITEM, len / 2, len - len % ITEM, len - 1];
-    lengths.retain(|shorter| (ITEM..len).contains(shorter));
-    let shorter = lengths.into_iter().map(|len| sheet[..len].to_vec());
-    shorter.chain(records::zeroed(sheet)).collect()
+    let lengths = [ITEM, len / 2, len - len % ITEM, len - 1];
+    records::less_behind(sheet, 0, &lengths.map(|len| len.max(ITEM)))
 }
 
 fn shorter_store(store: &[u8]) -> Vec<Vec<u8>> {
-    let slots = store.len() / SLOT;
-    let mut fewer = vec![1, slots - 1];
-    fewer.retain(|fewer| (1..slots).contains(fewer));
-    let shorter = fewer
-        .into_iter()
-        .map(|slots| store[..SLOT * slots].to_vec());
-    shorter.chain(records::zeroed(store)).collect()
+    let one_less = (store.len() - SLOT).max(SLOT);
+    records::less_behind(store, 0, &[SLOT, one_less])
 }
 
 /// Sections that are whole in the place of broken ones.

@@ -3,18 +3,21 @@
 use super::Input;
 use crate::lexicon_edges::row;
 use crate::lexicons::Row;
+use crate::phones::REHEARSED;
 use crate::prelude::*;
 use crate::sheet_edges::in_order;
 use crate::tree_edges::one_leaf;
 
 pub fn inputs() -> Vec<Input> {
-    let mut inputs = sheets();
-    inputs.extend(short_lists());
-    inputs.extend(exact_lengths());
-    inputs.extend(addenda());
-    inputs.extend(other_sections());
-    inputs.extend(edges());
-    inputs
+    [
+        sheets(),
+        short_lists(),
+        exact_lengths(),
+        addenda(),
+        other_sections(),
+        edges(),
+    ]
+    .concat()
 }
 
 fn input(
@@ -24,18 +27,13 @@ fn input(
     word: impl AsRef<[u8]>,
     tag: impl AsRef<[u8]>,
 ) -> Input {
-    Input {
-        scene: scene.clone(),
-        trees: trees.clone(),
-        sheet: sheet.to_vec(),
-        wanted: Wanted::new(word.as_ref(), tag.as_ref()),
-    }
+    let wanted = Wanted::new(word.as_ref(), tag.as_ref());
+    Input::new(sheet.to_vec(), scene.clone(), trees.clone(), wanted)
 }
 
 /// The good lexicon beside a store.
 fn good(store: Vec<u8>) -> Rc<Scene> {
-    let lexicon = Rc::new(Lexicon::new(lexicon_edges::good()));
-    Rc::new(Scene::new(&lexicon, store))
+    Scene::of(Lexicon::new(lexicon_edges::good()), store)
 }
 
 /// A new sheet of so many bytes.
@@ -47,20 +45,17 @@ fn new_sheet(len: usize) -> Vec<u8> {
 fn sheets() -> Vec<Input> {
     let scene = good(store_edges::good());
     let trees = Rc::new(one_leaf(b"ey1-t"));
-    let mut inputs = vec![];
-    let sheets = sheet_edges::limits()
-        .into_iter()
-        .chain(sheet_edges::small());
-    for sheet in sheets {
-        for (word, tag) in [(",", ""), ("a", "v"), ("Lead", "v"), ("xx", ""), ("ab", "")] {
-            inputs.push(input(&scene, &trees, &sheet, word, tag));
-        }
-    }
+    let sound = each! {
+        for sheet in [sheet_edges::limits(), sheet_edges::small()].concat();
+        [(",", ""), ("a", "v"), ("Lead", "v"), ("xx", ""), ("ab", "")]
+            .map(|(word, tag)| input(&scene, &trees, &sheet, word, tag))
+    };
     let altered = sheet_edges::altered_bytes().into_iter();
-    for (i, sheet) in altered.chain(sheet_edges::flipped()).enumerate() {
-        inputs.push(input(&scene, &trees, &sheet, [",", "b"][i % 2], ""));
-    }
-    inputs
+    let altered = each! {
+        for (i, sheet) in altered.chain(sheet_edges::flipped()).enumerate();
+        [input(&scene, &trees, &sheet, [",", "b"][i % 2], "")]
+    };
+    [sound, altered].concat()
 }
 
 /// Every list of up to three phones that the rules tell apart, each as a compiled entry, and 01's rehearsed ones.
@@ -75,17 +70,10 @@ fn short_lists() -> Vec<Input> {
         .map(|(i, numbers)| row(&format!("w{i:05}"), b'n', &numbers))
         .collect();
     let lexicon = Rc::new(Lexicon::of(&names, &rows));
-    let adds = [
-        ("m0", ""),
-        ("m1", "k ae t"),
-        ("m2", "eh k s t r ax"),
-        ("m3", "s ih ng er"),
-        ("m4", "s t"),
-        ("m5", "t pau aa"),
-        ("m6", "ae t h r ax"),
-        ("m7", "ae t l ax"),
-    ];
-    let adds = adds.map(|(word, phones)| store_edges::add(word, "", phones));
+    let rehearsed = REHEARSED.split(',').enumerate();
+    let adds: Vec<Add> = rehearsed
+        .map(|(i, phones)| store_edges::add(&format!("m{i}"), "", phones))
+        .collect();
     let empty = Scene::new(&lexicon, stores::new(adds.len() + 1, 0));
     let scene = empty.with_store(empty.grown(&adds));
     let trees = Rc::new(one_leaf(b"x"));
@@ -94,16 +82,16 @@ fn short_lists() -> Vec<Input> {
         new_sheet(9 * ITEM),
         sheet_edges::sheet(&in_order(&[before]), 20 * ITEM, 0),
     ];
-    let mut inputs = vec![];
-    for (i, row) in rows.iter().enumerate() {
-        inputs.push(input(&scene, &trees, &sheets[i % 2], &row.word, "v"));
-    }
-    for add in &adds {
-        for sheet in &sheets {
-            inputs.push(input(&scene, &trees, sheet, &add.wanted.word, "nil"));
-        }
-    }
-    inputs
+    let compiled = each! {
+        for (i, row) in rows.iter().enumerate();
+        [input(&scene, &trees, &sheets[i % 2], &row.word, "v")]
+    };
+    let rehearsed = each! {
+        for add in &adds;
+        for sheet in &sheets;
+        [input(&scene, &trees, sheet, &add.wanted.word, "nil")]
+    };
+    [compiled, rehearsed].concat()
 }
 
 /// Sheets about as long as a word needs them, behind other words and without.
@@ -116,9 +104,9 @@ fn exact_lengths() -> Vec<Input> {
         row("e", b'n', &[0; 97]),
         row("f", b'n', &[1; 255]),
     ];
-    let lexicon = Rc::new(Lexicon::of(&["ae1", "t"], &rows));
-    let scene = Rc::new(Scene::new(&lexicon, stores::new(1, 0)));
+    let scene = Scene::of(Lexicon::of(&["ae1", "t"], &rows), stores::new(1, 0));
     let trees = Rc::new(one_leaf(b"ey1-t"));
+    // words with the items that they need
     let words = [
         ("a", 3),
         ("b", 9),
@@ -130,88 +118,80 @@ fn exact_lengths() -> Vec<Input> {
         ("xyz", 10),
         ("", 1),
     ];
-    let mut inputs = vec![];
-    for (word, need) in words {
-        for used in [0, 1, 7] {
-            let before = vec![sheet_edges::word("w", &[]); used];
-            for unused in (0..=need + 1).filter(|n| n + 3 > need || *n < 2) {
-                for more in [0, 1, ITEM - 1] {
-                    let sheet = sheet_edges::sheet(&in_order(&before), ITEM * unused + more, 0x2e);
-                    inputs.push(input(&scene, &trees, &sheet, word, ""));
-                }
-            }
-        }
-        // the last items of the largest sheet
-        for unused in [0, need - 1, need, need + 1] {
-            let before = vec![sheet_edges::word("w", &[]); 1_023 - unused];
-            let sheet = sheet_edges::sheet(&in_order(&before), ITEM * unused, 0);
-            for sheet in [&sheet[..], &sheet[..sheet.len() - 1]] {
-                inputs.push(input(&scene, &trees, sheet, word, "n"));
-            }
-        }
-    }
+    let filled = |items: usize| in_order(&vec![sheet_edges::word("w", &[]); items]);
+    let about = each! {
+        for (word, need) in words;
+        for used in [0, 1, 7];
+        for unused in (0..=need + 1).filter(|n| n + 3 > need || *n < 2);
+        for more in [0, 1, ITEM - 1];
+        let sheet = sheet_edges::sheet(&filled(used), ITEM * unused + more, 0x2e);
+        [input(&scene, &trees, &sheet, word, "")]
+    };
+    // the last items of the largest sheet
+    let last = each! {
+        for (word, need) in words;
+        for unused in [0, need - 1, need, need + 1];
+        let sheet = sheet_edges::sheet(&filled(1_023 - unused), ITEM * unused, 0);
+        [&sheet[..], &sheet[..sheet.len() - 1]].map(|sheet| input(&scene, &trees, sheet, word, "n"))
+    };
     // 94 phones by letters
-    for (word, unused) in [(47, 142), (47, 143), (46, 139)] {
-        let (sheet, word) = (new_sheet(ITEM * unused), vec![b'a'; word]);
-        inputs.push(input(&scene, &trees, &sheet, word, ""));
-    }
-    inputs
+    let long = [(47, 142), (47, 143), (46, 139)]
+        .map(|(len, unused)| input(&scene, &trees, &new_sheet(ITEM * unused), vec![b'a'; len], ""));
+    [about, last, long.into()].concat()
 }
 
 /// Each of the addenda with some tags.
 fn addenda() -> Vec<Input> {
     let scene = good(stores::new(2, 0xee));
     let trees = Rc::new(one_leaf(b"zz"));
-    let mut inputs = vec![];
-    for word in lexicon_shapes::addenda() {
-        for tag in ["", "n", "p", "v", "s", "0", "nil", "x"] {
-            for word in [word.to_string(), word.to_uppercase()] {
-                inputs.push(input(&scene, &trees, &new_sheet(16 * ITEM), word, tag));
-            }
-        }
+    each! {
+        for word in lexicon_shapes::addenda();
+        for tag in ["", "n", "p", "v", "s", "0", "nil", "x"];
+        [word.to_string(), word.to_uppercase()]
+            .map(|word| input(&scene, &trees, &new_sheet(16 * ITEM), word, tag))
     }
-    inputs
 }
 
 /// Stores with one byte altered, and every section at 01's limits; lower refusals before higher ones.
 fn other_sections() -> Vec<Input> {
     let leaf = Rc::new(one_leaf(b"x"));
     let scene = good(store_edges::good());
-    let mut inputs = vec![];
-    for (i, store) in store_edges::altered_bytes().into_iter().enumerate() {
+    let altered = each! {
+        for (i, store) in store_edges::altered_bytes().into_iter().enumerate();
+        let word = ["lead", "zz"][i % 2];
+        [input(&scene.with_store(store), &leaf, &new_sheet(8 * ITEM), word, "")]
+    };
+    let stores = each! {
+        for store in store_edges::limits();
         let scene = scene.with_store(store);
-        let (sheet, word) = (new_sheet(8 * ITEM), ["lead", "zz"][i % 2]);
-        inputs.push(input(&scene, &leaf, &sheet, word, ""));
-    }
-    for store in store_edges::limits() {
-        let scene = scene.with_store(store);
-        for word in ["lead", "a", "w0", "in"] {
-            inputs.push(input(&scene, &leaf, &new_sheet(60 * ITEM), word, ""));
-        }
-    }
-    let unsound = vec![1; 128];
+        ["lead", "a", "w0", "in"].map(|word| input(&scene, &leaf, &new_sheet(60 * ITEM), word, ""))
+    };
+    let small = each! {
+        for lexicon in lexicon_edges::small(3);
+        let scene = scene.with_lexicon(&lexicon);
+        [("a", ""), ("b", "n"), ("b", "q")]
+            .map(|(word, tag)| input(&scene, &leaf, &new_sheet(5 * ITEM), word, tag))
+    };
+    let on_sheets = |scene: &Rc<Scene>, trees: &Rc<Trees>, items: usize, word: &str, tag: &str| {
+        [new_sheet(items * ITEM), new_sheet(ITEM), vec![1; 128]]
+            .map(|sheet| input(scene, trees, &sheet, word, tag))
+    };
+    let long = |scene: &Rc<Scene>, trees: &Rc<Trees>, tag: &str| {
+        input(scene, trees, &new_sheet(999), [b'a'; 48], tag)
+    };
+    let mut inputs = [altered, stores, small].concat();
     for lexicon in lexicon_edges::limits() {
         let scene = scene.with_lexicon(&lexicon);
         for word in ["a", "b", "ab", "", "in", "zz", "lead"] {
-            for sheet in [new_sheet(300 * ITEM), new_sheet(ITEM), unsound.clone()] {
-                inputs.push(input(&scene, &leaf, &sheet, word, "n"));
-            }
+            inputs.extend(on_sheets(&scene, &leaf, 300, word, "n"));
         }
-        inputs.push(input(&scene, &leaf, &new_sheet(999), [b'a'; 48], "n"));
-    }
-    for lexicon in lexicon_edges::small(3) {
-        let scene = scene.with_lexicon(&lexicon);
-        for (word, tag) in [("a", ""), ("b", "n"), ("b", "q")] {
-            inputs.push(input(&scene, &leaf, &new_sheet(5 * ITEM), word, tag));
-        }
+        inputs.push(long(&scene, &leaf, "n"));
     }
     for trees in tree_edges::limits() {
         for word in ["", "a#", "7", "a", "xy", "yx", "lead", ","] {
-            for sheet in [new_sheet(12 * ITEM), new_sheet(ITEM), unsound.clone()] {
-                inputs.push(input(&scene, &trees, &sheet, word, ""));
-            }
+            inputs.extend(on_sheets(&scene, &trees, 12, word, ""));
         }
-        inputs.push(input(&scene, &trees, &new_sheet(999), [b'a'; 48], ""));
+        inputs.push(long(&scene, &trees, ""));
     }
     inputs
 }
@@ -219,26 +199,12 @@ fn other_sections() -> Vec<Input> {
 /// Words and tags at 01's limits, on stores and sheets that are sound and that are not.
 fn edges() -> Vec<Input> {
     let leaf = Rc::new(one_leaf(b"x1-t"));
-    let scenes = [good(store_edges::good()), good(vec![1; 512])];
-    let sheets = [
-        sheet_edges::good(),
-        new_sheet(200 * ITEM),
-        new_sheet(ITEM),
-        vec![7; 64],
-        vec![],
-    ];
-    let mut inputs = vec![];
-    for scene in &scenes {
-        for sheet in &sheets {
-            for word in words::edges() {
-                inputs.push(input(scene, &leaf, sheet, word, ""));
-            }
-            for tag in words::tags() {
-                for word in ["Lead", "b", "a", "in", "qq"] {
-                    inputs.push(input(scene, &leaf, sheet, word, &tag));
-                }
-            }
-        }
+    let new = [200, 1].map(|items| new_sheet(items * ITEM));
+    let sheets = [&new[..], &[sheet_edges::good(), vec![7; 64], vec![]]].concat();
+    each! {
+        for scene in [good(store_edges::good()), good(vec![1; 512])];
+        for sheet in &sheets;
+        for Wanted { word, tag } in words::limits(&["Lead", "b", "a", "in", "qq"]);
+        [input(&scene, &leaf, sheet, word, tag)]
     }
-    inputs
 }
