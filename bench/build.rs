@@ -10,8 +10,5 @@ fn main() {
     let library = env::var_os("PRONOUNCER_LIB").unwrap_or("../target/staticlib".into());
     let library = here.join(library);
     println!("cargo::rustc-link-search=native={}", library.display());
-    println!(
-        "cargo::rerun-if-changed={}",
-        library.join("libpronouncer.a").display()
-    );
+    println!("cargo::rerun-if-changed={}", library.join("libpronouncer.a").display());
 }

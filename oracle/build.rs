@@ -38,10 +38,7 @@ fn main() {
 
     println!("cargo::rerun-if-changed=build.rs");
     println!("cargo::rustc-link-search=native={}", library.display());
-    println!(
-        "cargo::rerun-if-changed={}",
-        library.join("libpronouncer.a").display()
-    );
+    println!("cargo::rerun-if-changed={}", library.join("libpronouncer.a").display());
 }
 
 /// A folder told by the environment, or its usual place.
@@ -53,10 +50,7 @@ fn folder(here: &Path, variable: &str, usual: &str) -> PathBuf {
 /// Copies a file; behind its text one line may name a child module. The text in front stays as it was.
 fn copy_unchanged(source: &Path, copy: &Path, probe: Option<&Path>) {
     let Ok(text) = fs::read(source) else {
-        eprintln!(
-            "not compared: the Rust sources are not at hand ({})",
-            source.display()
-        );
+        eprintln!("not compared: the Rust sources are not at hand ({})", source.display());
         process::exit(NOT_AT_HAND);
     };
     let line = match probe {
@@ -69,9 +63,5 @@ fn copy_unchanged(source: &Path, copy: &Path, probe: Option<&Path>) {
     let written = fs::read(copy).expect("the copy can be read");
     let (front, behind) = written.split_at(text.len());
     assert!(front == text, "{} was altered", source.display());
-    assert!(
-        behind == line.as_bytes(),
-        "{} has more behind it",
-        source.display()
-    );
+    assert!(behind == line.as_bytes(), "{} has more behind it", source.display());
 }

@@ -14,11 +14,7 @@ pub fn instructions(tables: &Path, row: &str, side: usize) -> Result<f64, String
     let counts = env::temp_dir().join(format!("bench-{}-{side}.callgrind", std::process::id()));
     let driver = env::current_exe().map_err(|e| e.to_string())?;
     let run = Command::new("valgrind")
-        .args([
-            "--quiet",
-            "--tool=callgrind",
-            "--toggle-collect=measured_pass",
-        ])
+        .args(["--quiet", "--tool=callgrind", "--toggle-collect=measured_pass"])
         .arg(format!("--callgrind-out-file={}", counts.display()))
         .arg(driver)
         .arg("--tables")

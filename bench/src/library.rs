@@ -115,12 +115,7 @@ impl SayWord {
             let item = sheet[at..at + 64].try_into();
             (at, item.expect("an item has 64 bytes"))
         });
-        SayWord {
-            tables,
-            store,
-            sheet,
-            patched,
-        }
+        SayWord { tables, store, sheet, patched }
     }
 }
 

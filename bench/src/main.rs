@@ -50,10 +50,7 @@ fn asked() -> Result<Asked, String> {
     let mut words = env::args().skip(1);
     while let Some(word) = words.next() {
         let mut value = || words.next().ok_or(format!("{word} needs a value"));
-        let number = |text: String| {
-            text.parse::<usize>()
-                .map_err(|_| format!("{text}: a number"))
-        };
+        let number = |text: String| text.parse::<usize>().map_err(|_| format!("{text}: a number"));
         match word.as_str() {
             "--tables" => asked.tables = value()?.into(),
             "--seconds" => {
@@ -101,10 +98,7 @@ fn run(asked: &Asked) -> Result<(), String> {
     if let Some(difference) = agreement::difference(tables) {
         return Err(difference);
     }
-    let table = Table {
-        markdown: asked.markdown,
-        instructions: asked.instructions,
-    };
+    let table = Table { markdown: asked.markdown, instructions: asked.instructions };
     table.head();
     for plan in &plans {
         let mut row = plan.row(tables);

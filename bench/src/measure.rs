@@ -16,10 +16,7 @@ extern "C" {
 /// The processor time that this thread has taken.
 fn taken() -> Duration {
     const THREAD: i32 = 3;
-    let mut time = Timespec {
-        seconds: 0,
-        nanoseconds: 0,
-    };
+    let mut time = Timespec { seconds: 0, nanoseconds: 0 };
     // SAFETY: the pointer is to a timespec of 64-bit Linux.
     let failed = unsafe { clock_gettime(THREAD, &mut time) };
     assert!(failed == 0, "there is no clock of the thread's time");

@@ -44,9 +44,7 @@ pub fn with_entries(language: &Language, entries: &[Entry]) -> Language {
     let mut language = language.clone();
     for entry in entries {
         let phones: Vec<&str> = entry.phones.iter().map(String::as_str).collect();
-        let added = language
-            .lexicon
-            .add_entry(&entry.word, Some(entry.tag), &phones);
+        let added = language.lexicon.add_entry(&entry.word, Some(entry.tag), &phones);
         added.expect("the original knows the phones");
     }
     language

@@ -29,11 +29,8 @@ impl Plan {
     }
 }
 
-const FILLS: [(Fill, &str); 3] = [
-    (Fill::Empty, "empty"),
-    (Fill::Half, "half-full"),
-    (Fill::Full, "full"),
-];
+const FILLS: [(Fill, &str); 3] =
+    [(Fill::Empty, "empty"), (Fill::Half, "half-full"), (Fill::Full, "full")];
 
 /// All rows.
 pub fn all() -> Vec<Plan> {
@@ -42,12 +39,7 @@ pub fn all() -> Vec<Plan> {
         let row_name = name.clone();
         let make = Box::new(move |tables: &'static Tables| {
             let Sides { units, sides } = sides(tables);
-            Row {
-                name: row_name.clone(),
-                unit,
-                units,
-                sides,
-            }
+            Row { name: row_name.clone(), unit, units, sides }
         });
         plans.push(Plan { name, make });
     };
@@ -93,10 +85,7 @@ struct Sides {
 
 impl Sides {
     fn ours(side: impl Side + 'static) -> Sides {
-        Sides {
-            units: 1,
-            sides: vec![Box::new(side)],
-        }
+        Sides { units: 1, sides: vec![Box::new(side)] }
     }
 
     #[cfg(feature = "original")]
@@ -107,15 +96,9 @@ impl Sides {
 }
 
 fn predict(tables: &'static Tables) -> Sides {
-    let sides = Sides::ours(library::Predict {
-        tables,
-        out: [0; LIST],
-    });
+    let sides = Sides::ours(library::Predict { tables, out: [0; LIST] });
     #[cfg(feature = "original")]
-    let sides = sides.beside(rust::Predict {
-        tables,
-        language: rust::language(tables),
-    });
+    let sides = sides.beside(rust::Predict { tables, language: rust::language(tables) });
     sides
 }
 
@@ -131,19 +114,15 @@ fn syllabify(tables: &'static Tables) -> Sides {
         marks: [0; 96],
     });
     #[cfg(feature = "original")]
-    let sides = sides.beside(rust::Syllabify {
-        lists: lists.iter().map(|list| rust::texts(list)).collect(),
-    });
+    let sides = sides
+        .beside(rust::Syllabify { lists: lists.iter().map(|list| rust::texts(list)).collect() });
     sides
 }
 
 fn is_sayable(tables: &'static Tables) -> Sides {
     let sides = Sides::ours(library::IsSayable { tables });
     #[cfg(feature = "original")]
-    let sides = sides.beside(rust::IsSayable {
-        tables,
-        language: rust::language(tables),
-    });
+    let sides = sides.beside(rust::IsSayable { tables, language: rust::language(tables) });
     sides
 }
 
@@ -182,11 +161,7 @@ fn add_entry(tables: &'static Tables, fill: Fill) -> Sides {
         let language = rust::with_entries(&rust::language(tables), &entries);
         let entries = adds.iter().map(with_texts).collect();
         match fill {
-            Fill::Empty => sides.beside(rust::AddFirst {
-                language,
-                entries,
-                lexicons: vec![],
-            }),
+            Fill::Empty => sides.beside(rust::AddFirst { language, entries, lexicons: vec![] }),
             _ => sides.beside(rust::Replace { language, entries }),
         }
     };

@@ -100,10 +100,7 @@ pub fn entries(tables: &Tables, fill: Fill) -> Vec<Entry> {
     let mut keys = std::collections::BTreeSet::new();
     all.retain(|entry| keys.insert((entry.word.clone(), entry.tag)));
     all.truncate(count);
-    assert!(
-        all.len() == count,
-        "the words are too few for {count} entries"
-    );
+    assert!(all.len() == count, "the words are too few for {count} entries");
     all
 }
 

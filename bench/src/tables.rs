@@ -31,16 +31,8 @@ impl Tables {
             fs::read(&path).map_err(|e| format!("{} is not read: {e}", path.display()))
         };
         let mut tables = Tables {
-            lex: [
-                section("lex.phones")?,
-                section("lex.index")?,
-                section("lex.data")?,
-            ],
-            lts: [
-                section("lts.phones")?,
-                section("lts.index")?,
-                section("lts.model")?,
-            ],
+            lex: [section("lex.phones")?, section("lex.index")?, section("lex.data")?],
+            lts: [section("lts.phones")?, section("lts.index")?, section("lts.model")?],
             aswd: [section("aswd.p")?, section("aswd.s")?],
             words: vec![],
         };

@@ -84,10 +84,7 @@ impl Program {
         body: impl FnOnce(Vec<Argument>, &mut dyn Write) -> Result<Status, Fault>,
         out: &mut dyn Write,
     ) -> Result<Status, Fault> {
-        let own = ["--help", "--version"].map(|name| Known {
-            name,
-            has_value: false,
-        });
+        let own = ["--help", "--version"].map(|name| Known { name, has_value: false });
         let arguments = options::read(arguments, &[self.options, &own].concat())?;
         if arguments.contains(&Argument::Option("--help")) {
             out.write_all(self.help.as_bytes())?;
@@ -104,9 +101,7 @@ impl Program {
         let name = self.name;
         match fault {
             Fault::WrongUse(wrong) => {
-                tell(format_args!(
-                    "{name}: {wrong}; {name} --help lists what it takes"
-                ));
+                tell(format_args!("{name}: {wrong}; {name} --help lists what it takes"));
                 return ExitCode::from(2);
             }
             Fault::Output(error) if error.kind() == ErrorKind::BrokenPipe => {}

@@ -10,22 +10,17 @@ pub fn words(refusal: Refusal) -> String {
             "a section breaks its form",
             "Run check_tables on the folder: it says which one and where.",
         ),
-        Refusal::Unsound => (
-            "the store or the sheet is damaged or has a wrong length",
-            "Begin with a new one.",
-        ),
+        Refusal::Unsound => {
+            ("the store or the sheet is damaged or has a wrong length", "Begin with a new one.")
+        }
         Refusal::Text => (
             "a word or tag has more than 47 bytes, or a byte is not ASCII",
             "Shorten it, or write it with plain letters.",
         ),
-        Refusal::Line => (
-            "a line has no colon, or no word before it",
-            "Write: word tag : phones",
-        ),
-        Refusal::UnknownPhone => (
-            "a phone is in neither lex.phones nor the 50 known phones",
-            "Correct its spelling.",
-        ),
+        Refusal::Line => ("a line has no colon, or no word before it", "Write: word tag : phones"),
+        Refusal::UnknownPhone => {
+            ("a phone is in neither lex.phones nor the 50 known phones", "Correct its spelling.")
+        }
         Refusal::Damaged => (
             "the entry or the letter tree of this word is damaged",
             "Run check_tables on the folder: it says which.",

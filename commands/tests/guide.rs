@@ -15,9 +15,7 @@ fn pairs() -> Vec<(String, String)> {
     let path = Path::new(env!("CARGO_MANIFEST_DIR")).join("../docs/GUIDE.md");
     let guide = fs::read_to_string(path).expect("the guide is there");
     let (_, phones) = guide.split_once("## Phones").expect("a section of phones");
-    let rows = phones
-        .lines()
-        .skip_while(|line| !line.starts_with("| `aa`"));
+    let rows = phones.lines().skip_while(|line| !line.starts_with("| `aa`"));
     let mut pairs = Vec::new();
     for row in rows.take_while(|line| line.starts_with('|')) {
         let cells: Vec<&str> = row.trim_matches('|').split('|').map(str::trim).collect();
@@ -34,27 +32,11 @@ fn each_phone_can_be_typed_but_one() {
     assert_eq!(phones.len(), 50);
     let folder = folder("each_phone_can_be_typed");
     for phone in phones {
-        let names = file(
-            &folder,
-            "names.txt",
-            format!("word : {phone} ay1 {phone}\n"),
-        );
+        let names = file(&folder, "names.txt", format!("word : {phone} ay1 {phone}\n"));
         let said = run(SAY, &["--entries".into(), names, "word".into()], "");
-        let count = said
-            .out
-            .split_whitespace()
-            .filter(|told| **told == *phone)
-            .count();
+        let count = said.out.split_whitespace().filter(|told| **told == *phone).count();
         let typed = phone != "h#";
-        assert_eq!(
-            count,
-            if !typed {
-                0
-            } else {
-                2 + usize::from(phone == "ay")
-            },
-            "{phone}"
-        );
+        assert_eq!(count, if !typed { 0 } else { 2 + usize::from(phone == "ay") }, "{phone}");
     }
 }
 
@@ -75,7 +57,5 @@ fn the_one_that_cannot_be_typed_can_be_added() {
     let (mut slots, mut room) = ([0; 2 * SLOT_BYTES], [0; LIST_BYTES]);
     let mut store = Store::new_store(&mut slots).expect("a store");
     let phones = PhoneList::write("h#", &mut room).expect("a list");
-    store
-        .add_entry(&example::LEXICON, "word", "", phones)
-        .expect("it is added");
+    store.add_entry(&example::LEXICON, "word", "", phones).expect("it is added");
 }

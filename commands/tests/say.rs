@@ -67,10 +67,7 @@ fn words_of_every_source() {
 
 #[test]
 fn all_said_ends_with_0() {
-    assert_eq!(
-        say(&["house"]),
-        ended(0, "house (compiled): 1 hh aw s\n", "")
-    );
+    assert_eq!(say(&["house"]), ended(0, "house (compiled): 1 hh aw s\n", ""));
     assert_eq!(say(&[","]), ended(0, ", (addenda): no phones\n", ""));
     assert_eq!(say(&["/"]), ended(0, "/ (addenda): 1 s l ae sh\n", ""));
     assert_eq!(say(&[""]), ended(0, "", ""));
@@ -82,11 +79,7 @@ fn letters_without_phones_end_with_1() {
     assert_eq!(say(&["12"]), ended(1, "12 (letters): no phones\n", err));
     assert_eq!(
         say(&["12", "house"]),
-        ended(
-            1,
-            "12 (letters): no phones\nhouse (compiled): 1 hh aw s\n",
-            err
-        )
+        ended(1, "12 (letters): no phones\nhouse (compiled): 1 hh aw s\n", err)
     );
 }
 
@@ -95,11 +88,7 @@ fn a_refused_word_ends_with_1_and_the_others_are_said() {
     let bytes = no_text();
     assert_eq!(
         run(SAY, &[bytes, "house".into()], ""),
-        ended(
-            1,
-            "house (compiled): 1 hh aw s\n",
-            &format!("\u{fffd} {TEXT_REFUSED}")
-        )
+        ended(1, "house (compiled): 1 hh aw s\n", &format!("\u{fffd} {TEXT_REFUSED}"))
     );
 }
 
@@ -128,53 +117,28 @@ fn wrong_use_ends_with_2() {
         (&["house", "-v"], "there is no option -v"),
         (&["--plain=yes", "house"], "--plain takes no value"),
         (&["house", "--entries"], "--entries needs a value behind it"),
-        (
-            &["--tables", "a", "--tables=b", "house"],
-            "--tables stands twice",
-        ),
+        (&["--tables", "a", "--tables=b", "house"], "--tables stands twice"),
     ] {
-        assert_eq!(
-            say(arguments),
-            ended(2, "", &format!("say: {told}{pointer}"))
-        );
+        assert_eq!(say(arguments), ended(2, "", &format!("say: {told}{pointer}")));
     }
 }
 
 #[test]
 fn options_stand_anywhere() {
-    let names = file(
-        &folder("options_stand_anywhere"),
-        "good.txt",
-        "iris n : ay1 r ih0 s\n",
-    );
+    let names = file(&folder("options_stand_anywhere"), "good.txt", "iris n : ay1 r ih0 s\n");
     let out = "entries: 1 taken\nhouse (compiled): 1 hh aw s\niris (runtime): 1 ay | 0 r ih s\n";
-    let arguments = [
-        "house".into(),
-        "--entries".into(),
-        names.clone(),
-        "iris".into(),
-    ];
+    let arguments = ["house".into(), "--entries".into(), names.clone(), "iris".into()];
     assert_eq!(run(SAY, &arguments, ""), ended(0, out, ""));
 
     let mut behind = OsString::from("--entries=");
     behind.push(&names);
-    assert_eq!(
-        run(SAY, &["house".into(), "iris".into(), behind], ""),
-        ended(0, out, "")
-    );
+    assert_eq!(run(SAY, &["house".into(), "iris".into(), behind], ""), ended(0, out, ""));
 }
 
 #[test]
 fn two_dashes_end_options() {
     let said = say(&["--", "house", "-"]);
-    assert_eq!(
-        said,
-        ended(
-            0,
-            "house (compiled): 1 hh aw s\n- (addenda): no phones\n",
-            ""
-        )
-    );
+    assert_eq!(said, ended(0, "house (compiled): 1 hh aw s\n- (addenda): no phones\n", ""));
     let said = say(&["--", "--help"]);
     assert_eq!(said.status, Some(0));
     assert!(said.out.starts_with("--help (letters): "), "{}", said.out);
@@ -185,13 +149,7 @@ fn several_files_of_entries_are_taken_in_order() {
     let folder = folder("several_files");
     let first = file(&folder, "a.txt", "iris n : ay1 r ih0 s\nmel n : m eh1 l\n");
     let second = file(&folder, "b.txt", "mel n : m iy1 l\n");
-    let arguments = [
-        "--entries".into(),
-        first,
-        "--entries".into(),
-        second,
-        "iris mel".into(),
-    ];
+    let arguments = ["--entries".into(), first, "--entries".into(), second, "iris mel".into()];
     let out = "entries: 2 taken\nentries: 1 taken\niris (runtime): 1 ay | 0 r ih s\nmel (runtime): 1 m iy l\n";
     assert_eq!(run(SAY, &arguments, ""), ended(0, out, ""));
 }
@@ -200,34 +158,21 @@ fn several_files_of_entries_are_taken_in_order() {
 fn entries_that_cannot_be_read_end_with_1() {
     let folder = folder("entries_that_cannot_be_read");
     let path = folder.display();
-    let arguments = [
-        "--entries".into(),
-        folder.clone().into_os_string(),
-        "iris".into(),
-    ];
+    let arguments = ["--entries".into(), folder.clone().into_os_string(), "iris".into()];
     let err = format!("say: cannot read {path}: Is a directory (os error 21)\n");
     assert_eq!(run(SAY, &arguments, ""), ended(1, "", &err));
 
     let err = "say: cannot read a\\nhouse (letters): No such file or directory (os error 2)\n";
-    assert_eq!(
-        say(&["--entries", "a\nhouse (letters)", "iris"]),
-        ended(1, "", err)
-    );
+    assert_eq!(say(&["--entries", "a\nhouse (letters)", "iris"]), ended(1, "", err));
     let err = "say: cannot read /x (letters): y: No such file or directory (os error 2)\n";
-    assert_eq!(
-        say(&["--entries", "/x (letters): y", "iris"]),
-        ended(1, "", err)
-    );
+    assert_eq!(say(&["--entries", "/x (letters): y", "iris"]), ended(1, "", err));
 }
 
 /// The sentence for a text of entries that is refused; the words behind it are not said.
 fn refused(test: &str, text: impl AsRef<[u8]>) -> String {
     let ended = with_entries(test, text, &["house"]);
     assert_eq!((ended.status, ended.out.as_str()), (Some(1), ""));
-    let (_, told) = ended
-        .err
-        .split_once("/names.txt")
-        .expect("the file is named");
+    let (_, told) = ended.err.split_once("/names.txt").expect("the file is named");
     assert!(ended.err.starts_with("say: entries of /"), "{}", ended.err);
     told.into()
 }
@@ -270,32 +215,18 @@ fn a_damaged_folder_is_told() {
     let tables = folder.to_str().expect("a name in letters");
     let section = "is refused: 1, a section breaks its form. \
         Run check_tables on the folder: it says which one and where.\n";
-    assert_eq!(
-        say(&["--tables", tables, "house"]),
-        ended(1, "", &format!("house {section}"))
-    );
+    assert_eq!(say(&["--tables", tables, "house"]), ended(1, "", &format!("house {section}")));
     let names = file(&folder, "names.txt", format!("{NAMES}zoé : z\n"));
-    let arguments = [
-        "--tables".into(),
-        folder.clone().into(),
-        "--entries".into(),
-        names.clone(),
-    ];
-    let err = format!(
-        "say: entries of {} are {}",
-        names.display(),
-        section.trim_start_matches("is ")
-    );
+    let arguments = ["--tables".into(), folder.clone().into(), "--entries".into(), names.clone()];
+    let err =
+        format!("say: entries of {} are {}", names.display(), section.trim_start_matches("is "));
     assert_eq!(run(SAY, &arguments, ""), ended(1, "", &err));
 
     let folder = altered("a_damaged_entry", &[("lex.data", b"")]);
     let tables = folder.to_str().expect("a name in letters");
     let err = "house is refused: 6, the entry or the letter tree of this word is damaged. \
         Run check_tables on the folder: it says which.\n";
-    assert_eq!(
-        say(&["--tables", tables, "house", "to"]),
-        ended(1, "to (addenda): 0 t ax\n", err)
-    );
+    assert_eq!(say(&["--tables", tables, "house", "to"]), ended(1, "to (addenda): 0 t ax\n", err));
 }
 
 #[test]
@@ -326,22 +257,10 @@ fn plain_words_are_asked() {
         ("cue,", "cue, -> cue (compiled): 1 k y uw\n"),
         ("GO!", "GO! -> go (compiled): 1 g ow\n"),
         ("Lead/n", "Lead/n -> lead/n (compiled): 1 l eh d\n"),
-        (
-            "(House's)",
-            "(House's) -> house (compiled): 1 hh aw s\n(House's) -> 's (addenda): 0 z\n",
-        ),
-        (
-            "LX've",
-            "LX've -> lx (compiled): 1 eh | 1 l eh k s\nLX've -> 've (compiled): 0 v\n",
-        ),
-        (
-            "you'll",
-            "you'll -> you (compiled): 1 y uw\nyou'll -> 'll (compiled): 0 l\n",
-        ),
-        (
-            "he'd",
-            "he'd -> he (compiled): 1 hh iy\nhe'd -> 'd (compiled): 0 d\n",
-        ),
+        ("(House's)", "(House's) -> house (compiled): 1 hh aw s\n(House's) -> 's (addenda): 0 z\n"),
+        ("LX've", "LX've -> lx (compiled): 1 eh | 1 l eh k s\nLX've -> 've (compiled): 0 v\n"),
+        ("you'll", "you'll -> you (compiled): 1 y uw\nyou'll -> 'll (compiled): 0 l\n"),
+        ("he'd", "he'd -> he (compiled): 1 hh iy\nhe'd -> 'd (compiled): 0 d\n"),
         ("it's", "it's (compiled): 1 ih t s\n"),
         ("house", "house (compiled): 1 hh aw s\n"),
         ("...", "... (letters): no phones\n"),
@@ -370,10 +289,7 @@ fn an_ending_that_is_not_found_is_not_called_found() {
 #[test]
 fn words_are_read_from_input() {
     let out = "house (compiled): 1 hh aw s\nto (addenda): 0 t ax\nhalf (compiled): 1 hh ae f\n";
-    assert_eq!(
-        run(SAY, &[""; 0], "house\tto\r\n\n half"),
-        ended(0, out, "")
-    );
+    assert_eq!(run(SAY, &[""; 0], "house\tto\r\n\n half"), ended(0, out, ""));
     assert_eq!(run(SAY, &[""; 0], ""), ended(0, "", ""));
 }
 
@@ -382,10 +298,8 @@ fn input_is_answered_line_by_line() {
     let mut child = command(SAY, &[""; 0]).spawn().expect("it runs");
     let mut input = child.stdin.take().expect("its input");
     let mut answers = BufReader::new(child.stdout.take().expect("its output")).lines();
-    for (word, answer) in [
-        ("house", "house (compiled): 1 hh aw s"),
-        ("to", "to (addenda): 0 t ax"),
-    ] {
+    for (word, answer) in [("house", "house (compiled): 1 hh aw s"), ("to", "to (addenda): 0 t ax")]
+    {
         writeln!(input, "{word}").expect("it is read");
         assert_eq!(answers.next().expect("an answer").expect("a line"), answer);
     }

@@ -23,11 +23,7 @@ pub struct Outcome {
 
 impl Outcome {
     pub fn new(answer: Answer, written: Vec<Vec<u8>>) -> Outcome {
-        Outcome {
-            answer,
-            written,
-            altered: None,
-        }
+        Outcome { answer, written, altered: None }
     }
 }
 
@@ -44,20 +40,12 @@ pub struct Told {
 
 impl Told {
     pub fn new(answer: Answer, row: &'static str, written: Vec<Vec<u8>>) -> Told {
-        Told {
-            answer,
-            row,
-            written,
-            asked: true,
-        }
+        Told { answer, row, written, asked: true }
     }
 
     /// The same of an answer that the original has no part in.
     pub fn by_01(self) -> Told {
-        Told {
-            asked: false,
-            ..self
-        }
+        Told { asked: false, ..self }
     }
 }
 
@@ -287,9 +275,7 @@ pub fn ask<T>(question: impl FnOnce() -> T) -> Result<T, String> {
     answer.map_err(|said| {
         let said = match said.downcast::<String>() {
             Ok(text) => *text,
-            Err(said) => said
-                .downcast::<&str>()
-                .map_or("?".into(), |s| s.to_string()),
+            Err(said) => said.downcast::<&str>().map_or("?".into(), |s| s.to_string()),
         };
         format!("the original panics: {said}")
     })

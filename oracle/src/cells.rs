@@ -41,10 +41,7 @@ pub struct List {
 
 impl List {
     pub fn of<T: AsRef<[u8]>>(phones: &[T]) -> List {
-        List {
-            cells: phones.iter().map(|p| cell(p.as_ref())).collect(),
-            rest: vec![],
-        }
+        List { cells: phones.iter().map(|p| cell(p.as_ref())).collect(), rest: vec![] }
     }
 
     pub fn texts(&self) -> Vec<&[u8]> {

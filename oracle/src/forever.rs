@@ -10,9 +10,7 @@ pub struct Forever {
 
 impl Forever {
     fn new(bytes: Vec<u8>) -> Forever {
-        Forever {
-            bytes: Box::into_raw(bytes.into_boxed_slice()),
-        }
+        Forever { bytes: Box::into_raw(bytes.into_boxed_slice()) }
     }
 
     fn bytes(&self) -> &'static [u8] {
@@ -44,10 +42,7 @@ pub fn hold_texts<T>(texts: &[&[u8]], make: impl FnOnce(Vec<&'static str>) -> T)
         held.push(std::str::from_utf8(front).expect("the texts of a sound store are ASCII"));
         rest = behind;
     }
-    Held {
-        reader: make(held),
-        _bytes: bytes,
-    }
+    Held { reader: make(held), _bytes: bytes }
 }
 
 /// Hands sections to the original the only way it takes them: as a container.
@@ -65,8 +60,5 @@ pub fn hold<T, E: std::fmt::Debug>(
     let bytes = Forever::new(bytes);
     let container = Container::parse(bytes.bytes()).expect("the original reads our container");
     let reader = parse(&container).expect("the original takes sections that have 01's form");
-    Held {
-        reader,
-        _bytes: bytes,
-    }
+    Held { reader, _bytes: bytes }
 }

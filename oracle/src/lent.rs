@@ -62,28 +62,17 @@ pub struct Part<'a> {
 
 impl<'a> Part<'a> {
     pub fn read(name: &'static str, form: Form, bytes: impl Into<Cow<'a, [u8]>>) -> Part<'a> {
-        Part {
-            name,
-            form,
-            bytes: bytes.into(),
-            used: Use::Read,
-        }
+        Part { name, form, bytes: bytes.into(), used: Use::Read }
     }
 
     /// A part that the call may write.
     pub fn written(name: &'static str, form: Form, bytes: &'a [u8]) -> Part<'a> {
-        Part {
-            used: Use::Written,
-            ..Part::read(name, form, bytes)
-        }
+        Part { used: Use::Written, ..Part::read(name, form, bytes) }
     }
 
     /// An output, which is the first thing that its call writes.
     pub fn output(form: Form, room: Room) -> Part<'a> {
-        Part {
-            used: Use::Output(room),
-            ..Part::read("the output", form, &[][..])
-        }
+        Part { used: Use::Output(room), ..Part::read("the output", form, &[][..]) }
     }
 
     pub fn is_written(&self) -> bool {
@@ -129,19 +118,11 @@ pub struct Room {
 }
 
 impl Room {
-    pub const PLAIN: Room = Room {
-        size: Size::Exact,
-        fill: 0x77,
-        step: 0,
-    };
+    pub const PLAIN: Room = Room { size: Size::Exact, fill: 0x77, step: 0 };
 
     /// A room of this size for a short input, whose bytes differ.
     pub fn of(size: Size) -> Room {
-        Room {
-            size,
-            fill: 0x30,
-            step: 7,
-        }
+        Room { size, fill: 0x30, step: 7 }
     }
 
     /// A room for any call; one in ten is too short.
@@ -153,11 +134,7 @@ impl Room {
             3 => Size::More(100 * random.between(1, widest)),
             _ => Size::Short(random.between(1, widest)),
         };
-        Room {
-            size,
-            fill: random.byte(),
-            step: random.byte(),
-        }
+        Room { size, fill: random.byte(), step: random.byte() }
     }
 
     /// A room that is never too short, of one byte only, so that a list of cases stays small.
@@ -167,11 +144,7 @@ impl Room {
             1 => Size::More(1),
             _ => Size::More(random.between(1, widest)),
         };
-        Room {
-            size,
-            fill: random.byte(),
-            step: 0,
-        }
+        Room { size, fill: random.byte(), step: 0 }
     }
 
     /// The output as handed in, for an answer that needs so many bytes.
@@ -198,10 +171,7 @@ impl Shrink for Room {
         };
         let mut rooms = with(self, sizes, |room, size| room.size = size);
         if self.step != 0 || self.fill != Room::PLAIN.fill {
-            rooms.push(Room {
-                size: self.size,
-                ..Room::PLAIN
-            });
+            rooms.push(Room { size: self.size, ..Room::PLAIN });
         }
         rooms
     }

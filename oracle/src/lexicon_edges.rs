@@ -7,11 +7,7 @@ use crate::tables::{self, phone_table};
 
 /// An entry of these parts.
 pub fn row(word: &str, tag: u8, numbers: &[u8]) -> Row {
-    Row {
-        tag,
-        word: word.into(),
-        numbers: numbers.to_vec(),
-    }
+    Row { tag, word: word.into(), numbers: numbers.to_vec() }
 }
 
 /// Every lexicon of up to so many entries over two words and three tags, sorted or not, in which any

@@ -177,11 +177,7 @@ fn laid_out(random: &mut Random, names: &[Vec<u8>], rows: &[Row]) -> Sections {
         offsets[i] = data.len();
         data.extend(entry_bytes(&rows[i]));
     }
-    let mut sections = Sections {
-        phones: phone_table(names),
-        index: index(&offsets),
-        data,
-    };
+    let mut sections = Sections { phones: phone_table(names), index: index(&offsets), data };
     if random.once_in(4) {
         let more = random.between(1, 9);
         sections.phones.extend(random.bytes(more));
@@ -209,11 +205,7 @@ fn break_one(random: &mut Random, sections: &mut Sections, lexicon: &Lexicon) {
         Some(offsets) if entries > 0 => offsets[entry],
         _ => 0,
     };
-    let Sections {
-        phones,
-        index,
-        data,
-    } = sections;
+    let Sections { phones, index, data } = sections;
     let len = data.len();
     match random.below(14) {
         0 => break_phones(random, phones, names),
@@ -271,12 +263,10 @@ impl Shrink for Rc<Lexicon> {
         let given = &self.sections;
         let all = match (&self.names, &self.offsets) {
             (Some(names), Some(offsets)) => {
-                let tables = with(given, names.smaller(), |s, names| {
-                    s.phones = phone_table(&names)
-                });
-                let rows: Result<Vec<Row>, _> = (0..self.count())
-                    .map(|i| self.entry(i).map(Row::from))
-                    .collect();
+                let tables =
+                    with(given, names.smaller(), |s, names| s.phones = phone_table(&names));
+                let rows: Result<Vec<Row>, _> =
+                    (0..self.count()).map(|i| self.entry(i).map(Row::from)).collect();
                 let fewer = match rows {
                     Ok(rows) => fewer_rows(given, names, &rows),
                     Err(_) => fewer_bytes(given, offsets),
@@ -308,8 +298,6 @@ fn fewer_bytes(given: &Sections, offsets: &[usize]) -> Vec<Sections> {
         sections.index = index(&offsets.iter().map(moved).collect::<Vec<usize>>());
         sections.data = without(&given.data, &part);
     };
-    let fewer = with(given, shorter(offsets), |s, offsets| {
-        s.index = index(&offsets)
-    });
+    let fewer = with(given, shorter(offsets), |s, offsets| s.index = index(&offsets));
     [fewer, with(given, parts(given.data.len()), cut)].concat()
 }

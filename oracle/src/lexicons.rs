@@ -26,11 +26,7 @@ pub struct Compiled<'a> {
 
 impl From<Compiled<'_>> for Row {
     fn from(entry: Compiled) -> Row {
-        Row {
-            tag: entry.tag,
-            word: entry.word.to_vec(),
-            numbers: entry.numbers.to_vec(),
-        }
+        Row { tag: entry.tag, word: entry.word.to_vec(), numbers: entry.numbers.to_vec() }
     }
 }
 
@@ -52,11 +48,7 @@ pub enum Search {
     /// At an entry that is damaged, which the halving reads, or the run from the place on.
     Damaged { why: &'static str, in_run: bool },
     /// At an entry; the run of the word's entries starts at `first`.
-    Entry {
-        first: usize,
-        chosen: usize,
-        exact: bool,
-    },
+    Entry { first: usize, chosen: usize, exact: bool },
 }
 
 /// Sections, and what 01 says of them.
@@ -77,13 +69,7 @@ impl Lexicon {
         let offsets = offsets(&sections.index);
         let original = names.is_some() && offsets.is_some();
         let original = original.then(|| hold(&sections.parts(), lexicon::Lexicon::parse));
-        let mut made = Lexicon {
-            sections,
-            names,
-            offsets,
-            has_damage: false,
-            original,
-        };
+        let mut made = Lexicon { sections, names, offsets, has_damage: false, original };
         made.has_damage = made.has_form() && (0..made.count()).any(|i| made.whole(i).is_err());
         made
     }
@@ -95,11 +81,7 @@ impl Lexicon {
 
     /// A phone table beside no entries, which is all that adding takes.
     pub fn of_table(phones: Vec<u8>) -> Rc<Lexicon> {
-        Rc::new(Lexicon::new(Sections {
-            phones,
-            index: index(&[]),
-            data: vec![],
-        }))
+        Rc::new(Lexicon::new(Sections { phones, index: index(&[]), data: vec![] }))
     }
 
     /// Whether all three sections have 01's form.
@@ -181,11 +163,7 @@ impl Lexicon {
             let exact = equals(at)?;
             let chosen = if exact { at } else { lo };
             self.whole(chosen)?;
-            Ok(Search::Entry {
-                first: lo,
-                chosen,
-                exact,
-            })
+            Ok(Search::Entry { first: lo, chosen, exact })
         };
         chosen().unwrap_or_else(|why| Search::Damaged { why, in_run: true })
     }
@@ -220,9 +198,8 @@ pub fn is_of_the_50(phone: &[u8]) -> bool {
 
 /// The offsets of an index that has 01's form.
 fn offsets(index: &[u8]) -> Option<Vec<usize>> {
-    let mut numbers = index
-        .chunks_exact(4)
-        .map(|b| u32::from_le_bytes([b[0], b[1], b[2], b[3]]) as usize);
+    let mut numbers =
+        index.chunks_exact(4).map(|b| u32::from_le_bytes([b[0], b[1], b[2], b[3]]) as usize);
     let count = numbers.next()?;
     let offsets: Vec<usize> = numbers.take(count).collect();
     (offsets.len() == count).then_some(offsets)
@@ -251,9 +228,5 @@ pub fn sections<T: AsRef<[u8]>>(names: &[T], rows: &[Row]) -> Sections {
         offsets.push(data.len());
         data.extend(entry_bytes(row));
     }
-    Sections {
-        phones: phone_table(names),
-        index: index(&offsets),
-        data,
-    }
+    Sections { phones: phone_table(names), index: index(&offsets), data }
 }

@@ -19,11 +19,7 @@ impl Machines {
     pub fn new(sections: [Vec<u8>; 2], alphabet: Vec<u8>) -> Machines {
         let has_form = sections.iter().all(|s| s.len() >= HEAD);
         let original = has_form.then(|| hold(&parts(&sections), Sayable::parse));
-        Machines {
-            sections,
-            alphabet,
-            original,
-        }
+        Machines { sections, alphabet, original }
     }
 
     pub fn parts(&self) -> [Part<'_>; 2] {
@@ -49,10 +45,7 @@ impl Machines {
 }
 
 fn parts([prefix, suffix]: &[Vec<u8>; 2]) -> [Part<'_>; 2] {
-    [
-        Part::read("aswd.p", Form::Bytes, prefix),
-        Part::read("aswd.s", Form::Bytes, suffix),
-    ]
+    [Part::read("aswd.p", Form::Bytes, prefix), Part::read("aswd.s", Form::Bytes, suffix)]
 }
 
 impl Shrink for Rc<Machines> {

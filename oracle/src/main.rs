@@ -91,12 +91,8 @@ fn main() -> ExitCode {
 
 /// What the command line says; none if it says anything else.
 fn arguments() -> Option<Arguments> {
-    let mut found = Arguments {
-        limit: Limit::Calls(1_000_000),
-        seed: 1,
-        record: None,
-        count: 2_500,
-    };
+    let mut found =
+        Arguments { limit: Limit::Calls(1_000_000), seed: 1, record: None, count: 2_500 };
     let mut words = std::env::args().skip(1);
     while let Some(word) = words.next() {
         let value = words.next()?;

@@ -37,10 +37,7 @@ impl Form {
     pub fn at_exit(self, left: &[u8], answer: Answer) -> String {
         match self {
             Form::Spare => store(left),
-            Form::Cells => or_dot(cells_of(
-                left,
-                (answer.value as usize).min(left.len() / CELL),
-            )),
+            Form::Cells => or_dot(cells_of(left, (answer.value as usize).min(left.len() / CELL))),
             form => form.shown(left),
         }
     }
@@ -158,10 +155,7 @@ fn pieces(bytes: &[u8]) -> String {
     let mut rest = bytes;
     while let Some(first) = rest.first() {
         let same = rest.iter().take_while(|b| *b == first).count();
-        let quoted = rest
-            .iter()
-            .take_while(|b| plain(&[**b], b'"').is_some())
-            .count();
+        let quoted = rest.iter().take_while(|b| plain(&[**b], b'"').is_some()).count();
         let taken = if same > 3 {
             text += &format!("{{{same}}}{}", hex(*first));
             same

@@ -15,34 +15,19 @@ pub struct Answer {
 
 impl Answer {
     pub fn accepted(kind: u32, value: usize) -> Answer {
-        Answer {
-            refusal: 0,
-            kind,
-            value: value as u64,
-            second: 0,
-            third: 0,
-        }
+        Answer { refusal: 0, kind, value: value as u64, second: 0, third: 0 }
     }
 
     /// A refusal; its line is 0 except in add_entries.
     pub fn refused(refusal: u32, line: usize) -> Answer {
-        Answer {
-            refusal,
-            ..Answer::accepted(0, line)
-        }
+        Answer { refusal, ..Answer::accepted(0, line) }
     }
 }
 
 /// All numbers; the last two, which no call tells, where they are told.
 impl fmt::Display for Answer {
     fn fmt(&self, f: &mut fmt::Formatter) -> fmt::Result {
-        let Answer {
-            refusal,
-            kind,
-            value,
-            second,
-            third,
-        } = self;
+        let Answer { refusal, kind, value, second, third } = self;
         write!(f, "refusal {refusal} kind {kind} value {value}")?;
         match (second, third) {
             (0, 0) => Ok(()),

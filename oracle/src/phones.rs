@@ -24,12 +24,7 @@ impl Default for Phones {
     fn default() -> Phones {
         let names = phoneset::probe::names();
         let (vowels, consonants) = names.iter().partition(|name| phoneset::is_vowel(name));
-        Phones {
-            names,
-            vowels,
-            consonants,
-            onsets: lexicon::probe::onsets(),
-        }
+        Phones { names, vowels, consonants, onsets: lexicon::probe::onsets() }
     }
 }
 
@@ -38,12 +33,9 @@ impl Phones {
     pub fn phone(&self, random: &mut Random) -> Vec<u8> {
         match random.weighted(&[6, 3, 2, 1]) {
             0 => random.pick(&self.names).into(),
-            1 => [
-                random.pick(&self.names),
-                random.pick(&["0", "1", "2", "00", "11"]),
-            ]
-            .concat()
-            .into(),
+            1 => [random.pick(&self.names), random.pick(&["0", "1", "2", "00", "11"])]
+                .concat()
+                .into(),
             2 => random.pick(&odd()).into(),
             _ => {
                 let len = random.between(0, 15);

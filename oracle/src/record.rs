@@ -65,9 +65,7 @@ pub fn register(number: usize, form: Form, bytes: &[u8]) -> String {
 /// The lines that fill registers with what calls are lent.
 pub fn registers(first: usize, parts: &[Part]) -> Vec<String> {
     let filled = (first..).zip(parts);
-    filled
-        .map(|(number, part)| register(number, part.form, &part.bytes))
-        .collect()
+    filled.map(|(number, part)| register(number, part.form, &part.bytes)).collect()
 }
 
 /// The names of these registers.
@@ -81,12 +79,7 @@ pub fn case<C: Call>(call: &C, input: &C::Input, front: &[String]) -> (String, E
     let expected = call.expected(input);
     let shown = notation::line(C::NAME, &call.lent(input), &expected.handed, front);
     let outcome = expected.outcome.as_ref().expect("the original answers");
-    let Answer {
-        refusal,
-        kind,
-        value,
-        ..
-    } = outcome.answer;
+    let Answer { refusal, kind, value, .. } = outcome.answer;
     assert!(
         expected.asked && (refusal == 0 || C::ERRORS.contains(&refusal)),
         "only what the original answers is recorded"
@@ -98,10 +91,7 @@ pub fn case<C: Call>(call: &C, input: &C::Input, front: &[String]) -> (String, E
 pub fn whole_case<C: Call>(call: &C, input: &C::Input, front: &[String]) -> String {
     let (case, expected) = case(call, input, front);
     let outcome = expected.outcome.as_ref().expect("the original answers");
-    match (
-        expected.handed.is_empty(),
-        outcome.written == expected.handed,
-    ) {
+    match (expected.handed.is_empty(), outcome.written == expected.handed) {
         (true, _) => case,
         (false, true) => format!("{case} ="),
         (false, false) => format!("{case} {}", call.show_written(input, outcome)),
@@ -111,10 +101,7 @@ pub fn whole_case<C: Call>(call: &C, input: &C::Input, front: &[String]) -> Stri
 /// Lines of so many sets, each below a title.
 pub fn sets(title: &str, sets: usize, set: impl FnMut(usize) -> Vec<String>) -> Vec<String> {
     let titles = (1..=sets).map(|number| vec![format!("# {title} {number} of {sets}")]);
-    titles
-        .zip((0..sets).map(set))
-        .flat_map(|(title, lines)| [title, lines].concat())
-        .collect()
+    titles.zip((0..sets).map(set)).flat_map(|(title, lines)| [title, lines].concat()).collect()
 }
 
 /// Cases below a title, each with all that it is lent.

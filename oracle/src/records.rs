@@ -87,9 +87,7 @@ pub fn less_behind(bytes: &[u8], from: usize, lengths: &[usize]) -> Vec<Vec<u8>>
     let lengths = lengths.iter().filter(|len| **len < bytes.len());
     let shorter = lengths.map(|len| bytes[..*len].to_vec());
     let zeros = zeroed(&bytes[from..]).into_iter();
-    shorter
-        .chain(zeros.map(|behind| [&bytes[..from], &behind].concat()))
-        .collect()
+    shorter.chain(zeros.map(|behind| [&bytes[..from], &behind].concat())).collect()
 }
 
 /// Bytes with records left out or made zero, for shrinking; one by one in so many records.

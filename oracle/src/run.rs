@@ -135,8 +135,7 @@ impl<C: Call + 'static> Compared for Runner<C> {
 
     fn record(&self, cases: usize) -> Vec<String> {
         let stream = format!("record {}", C::NAME);
-        self.call
-            .record(&mut Random::new(self.seed, &stream), cases)
+        self.call.record(&mut Random::new(self.seed, &stream), cases)
     }
 }
 

@@ -63,12 +63,7 @@ impl Scene {
             Ok(entries) if lexicon.has_form() => Some(with_entries(lexicon, entries)),
             _ => None,
         };
-        Scene {
-            original,
-            lexicon: lexicon.clone(),
-            store,
-            entries,
-        }
+        Scene { original, lexicon: lexicon.clone(), store, entries }
     }
 
     /// A new lexicon beside a store.
@@ -78,12 +73,7 @@ impl Scene {
 
     /// The same without the original, for a store that the library has made.
     pub fn alone(lexicon: &Rc<Lexicon>, store: Vec<u8>) -> Scene {
-        Scene {
-            original: None,
-            lexicon: lexicon.clone(),
-            store,
-            entries: Err("not read"),
-        }
+        Scene { original: None, lexicon: lexicon.clone(), store, entries: Err("not read") }
     }
 
     /// The same lexicon beside another store.
@@ -185,8 +175,7 @@ impl Scene {
                 keys.push(key);
             }
         });
-        self.store_of(&keys, &list)
-            .expect("the original adds what 01 says")
+        self.store_of(&keys, &list).expect("the original adds what 01 says")
     }
 }
 

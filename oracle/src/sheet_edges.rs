@@ -9,15 +9,9 @@ use crate::spoken::{Syllable, Word};
 pub fn word(text: &str, syllables: &[&str]) -> Word {
     let syllable = |text: &&str| {
         let mut parts = text.split(' ').map(|part| part.as_bytes().to_vec());
-        Syllable {
-            stress: parts.next().unwrap_or_default()[0],
-            phones: parts.collect(),
-        }
+        Syllable { stress: parts.next().unwrap_or_default()[0], phones: parts.collect() }
     };
-    Word {
-        text: text.into(),
-        syllables: syllables.iter().map(syllable).collect(),
-    }
+    Word { text: text.into(), syllables: syllables.iter().map(syllable).collect() }
 }
 
 /// Words in items that follow each other.
@@ -27,10 +21,7 @@ pub fn in_order(words: &[Word]) -> Vec<Placed> {
     for word in words {
         let items = used + 1..=used + word.items();
         used = *items.end();
-        placed.push(Placed {
-            word: word.clone(),
-            items: items.collect(),
-        });
+        placed.push(Placed { word: word.clone(), items: items.collect() });
     }
     placed
 }
@@ -92,13 +83,8 @@ pub fn flipped() -> Vec<Vec<u8>> {
 /// Every sheet of one word, and of two, with up to two syllables of up to two phones; in their order, from
 /// behind, and with each two neighbours swapped. Some have room behind them.
 pub fn small() -> Vec<Vec<u8>> {
-    let syllables: [&[&str]; 5] = [
-        &[],
-        &["0 k"],
-        &["1 k t"],
-        &["0 k", "1 t"],
-        &["1 k t", "0 ae s"],
-    ];
+    let syllables: [&[&str]; 5] =
+        [&[], &["0 k"], &["1 k t"], &["0 k", "1 t"], &["1 k t", "0 ae s"]];
     let mut words: Vec<Vec<Word>> = vec![vec![]];
     for first in syllables {
         words.push(vec![word("a", first)]);
@@ -181,14 +167,7 @@ fn unsound() -> Vec<Vec<u8>> {
     // the phones in another order: forwards, backwards, and both ways
     change(&[(0, 12, 4), (4, 12, 3), (3, 12, 9)]);
     change(&[(0, 10, 9), (9, 10, 8), (8, 10, 4)]);
-    change(&[
-        (3, 12, 8),
-        (8, 12, 9),
-        (9, 12, 0),
-        (0, 10, 9),
-        (9, 10, 8),
-        (8, 10, 3),
-    ]);
+    change(&[(3, 12, 8), (8, 12, 9), (9, 12, 0), (0, 10, 9), (9, 10, 8), (8, 10, 3)]);
     // a phone left out of both chains; a ring of phones
     change(&[(3, 12, 9), (9, 10, 3)]);
     change(&[(8, 12, 3), (3, 10, 8)]);

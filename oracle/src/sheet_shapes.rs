@@ -139,10 +139,8 @@ pub fn damaged(random: &mut Random, sheet: &[u8]) -> Vec<u8> {
 fn with_empty_syllable(random: &mut Random, sheet: &[u8]) -> Vec<u8> {
     let placed = sheets::read(sheet).unwrap_or_default();
     let mut words: Vec<Word> = placed.into_iter().map(|placed| placed.word).collect();
-    let mut syllables: Vec<&mut Syllable> = words
-        .iter_mut()
-        .flat_map(|word| &mut word.syllables)
-        .collect();
+    let mut syllables: Vec<&mut Syllable> =
+        words.iter_mut().flat_map(|word| &mut word.syllables).collect();
     if !syllables.is_empty() {
         let at = random.below(syllables.len());
         syllables[at].phones.clear();

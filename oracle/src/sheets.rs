@@ -45,10 +45,8 @@ pub fn has_length(len: usize) -> bool {
 /// The words of a sound sheet; of any other sheet, what is amiss.
 pub fn read(sheet: &[u8]) -> Result<Vec<Placed>, &'static str> {
     of_head(sheet)?;
-    let mut tree = Tree {
-        seen: vec![false; unused(sheet) / ITEM],
-        items: sheet.chunks_exact(ITEM).collect(),
-    };
+    let mut tree =
+        Tree { seen: vec![false; unused(sheet) / ITEM], items: sheet.chunks_exact(ITEM).collect() };
     let mut words = vec![];
     let mut phones = vec![];
     for at in tree.children(0, WORD)? {
@@ -58,10 +56,7 @@ pub fn read(sheet: &[u8]) -> Result<Vec<Placed>, &'static str> {
             let below = tree.children(at, PHONE)?;
             of_fields(tree.items[at])?;
             let texts: Result<_, _> = below.iter().map(|at| read_text(tree.items[*at])).collect();
-            syllables.push(Syllable {
-                stress: tree.items[at][STRESS],
-                phones: texts?,
-            });
+            syllables.push(Syllable { stress: tree.items[at][STRESS], phones: texts? });
             items.push(at);
             items.extend(&below);
             phones.extend(below);
@@ -236,22 +231,14 @@ pub fn write(sheet: &[u8], placed: &[Placed]) -> Vec<u8> {
 pub fn with_word(sheet: &[u8], before: &[Placed], word: &Word) -> Vec<u8> {
     let used = used(before);
     let mut words = before.to_vec();
-    words.push(Placed {
-        word: word.clone(),
-        items: (used + 1..=used + word.items()).collect(),
-    });
+    words.push(Placed { word: word.clone(), items: (used + 1..=used + word.items()).collect() });
     let after = write(sheet, &words);
-    assert!(
-        read(&after).as_ref() == Ok(&words),
-        "the driver does not read what it wrote"
-    );
+    assert!(read(&after).as_ref() == Ok(&words), "the driver does not read what it wrote");
     let last_word = before.last().map_or(0, |placed| placed.items[0]);
     // a word that has phones ends with one
     let spoken = |placed: &&Placed| placed.items.len() > 1;
-    let last_phone = before
-        .iter()
-        .rfind(spoken)
-        .map_or(0, |placed| placed.items[placed.items.len() - 1]);
+    let last_phone =
+        before.iter().rfind(spoken).map_or(0, |placed| placed.items[placed.items.len() - 1]);
     let touched = |at: usize| match (at / ITEM, at % ITEM) {
         (0, field) => (FIRST..LINKS_END).contains(&field),
         (item, _) if item > used => item <= used + word.items(),
@@ -260,10 +247,7 @@ pub fn with_word(sheet: &[u8], before: &[Placed], word: &Word) -> Vec<u8> {
         _ => false,
     };
     let stray = (0..sheet.len()).find(|at| sheet[*at] != after[*at] && !touched(*at));
-    assert!(
-        stray.is_none(),
-        "the driver writes a byte that the word has no part in"
-    );
+    assert!(stray.is_none(), "the driver writes a byte that the word has no part in");
     after
 }
 
@@ -343,10 +327,7 @@ pub fn reading(sheet: &[u8]) -> Option<Reading> {
         let mut syllables = vec![];
         for syllable in chain(field(word, FIRST), NEXT)? {
             let phones = chain(field(syllable, FIRST), NEXT)?;
-            syllables.push(Syllable {
-                stress: items[syllable][STRESS],
-                phones: texts(&phones)?,
-            });
+            syllables.push(Syllable { stress: items[syllable][STRESS], phones: texts(&phones)? });
             met.extend(phones);
         }
         let text = text(&word)?;

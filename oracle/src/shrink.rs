@@ -72,10 +72,7 @@ pub fn without<T: Clone>(list: &[T], part: &Range<usize>) -> Vec<T> {
 
 /// A list with parts left out, the longest first.
 pub fn shorter<T: Clone>(list: &[T]) -> Vec<Vec<T>> {
-    parts(list.len())
-        .iter()
-        .map(|part| without(list, part))
-        .collect()
+    parts(list.len()).iter().map(|part| without(list, part)).collect()
 }
 
 /// Something of which there are smaller ones, to find out what a difference needs.

@@ -58,10 +58,7 @@ pub fn say(lexicon: &Lexicon, lts: &Lts, wanted: &[Wanted]) -> Result<Said, Stri
         probe::say(&language, &mut utterance);
         utterance
     })?;
-    Ok(Said {
-        words: read(&utterance)?,
-        phone_string: ask(|| pipeline::phone_string(&utterance))?,
-    })
+    Ok(Said { words: read(&utterance)?, phone_string: ask(|| pipeline::phone_string(&utterance))? })
 }
 
 /// The original's phone string of any phones in a row.
@@ -86,10 +83,7 @@ fn read(utterance: &Utterance) -> Result<Vec<Word>, String> {
     for word in chain("Word") {
         let tree = utterance.item_as(word, "SylStructure");
         let tree = tree.ok_or("the original leaves a word out of its tree")?;
-        let mut read = Word {
-            text: utterance.name(word).into(),
-            syllables: vec![],
-        };
+        let mut read = Word { text: utterance.name(word).into(), syllables: vec![] };
         for syllable in utterance.iter_from(utterance.daughter(tree)) {
             let phones: Vec<ItemId> = utterance.iter_from(utterance.daughter(syllable)).collect();
             let stress = match utterance.feature_str(syllable, "stress") {
@@ -98,21 +92,14 @@ fn read(utterance: &Utterance) -> Result<Vec<Word>, String> {
                 other => return Err(format!("the original has a stress {other:?}")),
             };
             let names = phones.iter().map(|phone| utterance.name(*phone).into());
-            read.syllables.push(Syllable {
-                stress,
-                phones: names.collect(),
-            });
+            read.syllables.push(Syllable { stress, phones: names.collect() });
             syllables.push(syllable);
             segments.extend(phones);
         }
         words.push(read);
     }
     let roots: Vec<ItemId> = chain("SylStructure");
-    for (name, found) in [
-        ("Word", &roots),
-        ("Syllable", &syllables),
-        ("Segment", &segments),
-    ] {
+    for (name, found) in [("Word", &roots), ("Syllable", &syllables), ("Segment", &segments)] {
         let forwards = chain(name);
         let relation = utterance.relation(name);
         let last = relation.and_then(|relation| utterance.tail(relation));

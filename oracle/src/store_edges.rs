@@ -6,10 +6,7 @@ use crate::stores::{Placed, LARGEST};
 /// An entry to be added, its phones parted by blanks.
 pub fn add(word: &str, tag: &str, phones: &str) -> Add {
     let phones: Vec<&str> = phones.split_whitespace().collect();
-    Add {
-        wanted: Wanted::new(word, tag),
-        phones: List::of(&phones),
-    }
+    Add { wanted: Wanted::new(word, tag), phones: List::of(&phones) }
 }
 
 /// A new store of so many slots with a byte in the others, after some adds.
@@ -20,14 +17,7 @@ pub fn grown(slots: usize, fill: u8, adds: &[Add]) -> Vec<u8> {
 
 /// Every store that up to so many adds over two words and three tags leave.
 pub fn small(most: usize) -> Vec<Vec<u8>> {
-    let keys = [
-        ("a", ""),
-        ("A", "n"),
-        ("a", "v"),
-        ("b", "nil"),
-        ("b", "n"),
-        ("B", "v"),
-    ];
+    let keys = [("a", ""), ("A", "n"), ("a", "v"), ("b", "nil"), ("b", "n"), ("B", "v")];
     let made = |keys: &Vec<(&str, &str)>| {
         let adds = keys.iter().zip(["k", "t", "s", "r"]);
         let adds = adds.map(|((word, tag), phone)| add(word, tag, phone));
@@ -38,11 +28,7 @@ pub fn small(most: usize) -> Vec<Vec<u8>> {
 
 /// A store of two entries, the newer in the first slot, and a slot with anything in it.
 pub fn good() -> Vec<u8> {
-    let adds = [
-        add("lead", "v", "l iy d"),
-        add("a", "n", "ax"),
-        add("lead", "v", "l iy"),
-    ];
+    let adds = [add("lead", "v", "l iy d"), add("a", "n", "ax"), add("lead", "v", "l iy")];
     grown(4, 0xb7, &adds)
 }
 

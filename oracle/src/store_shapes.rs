@@ -24,9 +24,7 @@ pub fn of_size(
 ) -> Vec<u8> {
     // a large store takes more words than a pool has
     let any = adds > 24;
-    let adds: Vec<Add> = (0..adds)
-        .map(|_| add(random, empty, words, phones, any))
-        .collect();
+    let adds: Vec<Add> = (0..adds).map(|_| add(random, empty, words, phones, any)).collect();
     let new = empty.with_store(stores::new(slots, 0));
     let mut store = new.grown(&adds);
     if random.once_in(4) {
@@ -134,13 +132,7 @@ pub fn damaged(random: &mut Random, store: &[u8]) -> Vec<u8> {
     let slot = SLOT * random.between(usize::from(used > 0), used);
     match random.below(15) {
         0 => {
-            let lengths = [
-                0,
-                SLOT - 1,
-                store.len() - 1,
-                store.len() + 1,
-                LARGEST + SLOT,
-            ];
+            let lengths = [0, SLOT - 1, store.len() - 1, store.len() + 1, LARGEST + SLOT];
             store.resize(lengths[random.below(5)], 0);
         }
         1 => store.truncate(SLOT * random.below(slots)),

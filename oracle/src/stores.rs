@@ -179,7 +179,5 @@ pub fn stray(before: &[u8], after: &[u8], key_slot: usize) -> Option<usize> {
         _ => at % SLOT < TAG,
     };
     let altered = |at: &usize| before[*at] != after[*at];
-    (0..before.len())
-        .filter(altered)
-        .find(|at| !touched(*at) || *at >= unused(after))
+    (0..before.len()).filter(altered).find(|at| !touched(*at) || *at >= unused(after))
 }

@@ -79,13 +79,7 @@ pub fn limits(good: &[u8]) -> Vec<Vec<u8>> {
 
 /// The names of a table.
 pub fn names(random: &mut Random, name: impl Fn(&mut Random) -> Vec<u8>) -> Vec<Vec<u8>> {
-    let count = random.ranged(&[
-        (1, 0, 0),
-        (2, 1, 1),
-        (12, 2, 12),
-        (8, 13, 80),
-        (2, 256, 256),
-    ]);
+    let count = random.ranged(&[(1, 0, 0), (2, 1, 1), (12, 2, 12), (8, 13, 80), (2, 256, 256)]);
     (0..count).map(|_| name(random)).collect()
 }
 

@@ -25,10 +25,7 @@ struct Rows {
 impl Rows {
     fn new(names: impl Iterator<Item = String>) -> Rows {
         let names: Vec<String> = names.collect();
-        Rows {
-            counts: vec![0; names.len()],
-            names,
-        }
+        Rows { counts: vec![0; names.len()], names }
     }
 
     fn add(&mut self, name: &str) {

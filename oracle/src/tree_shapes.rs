@@ -115,9 +115,8 @@ pub fn deepest(random: &mut Random, leaves: usize) -> Trees {
     };
     let count = LONGEST_MODEL / NODE;
     let chain = count - leaves;
-    let mut nodes: Vec<Node> = (1..chain)
-        .map(|next| question(random, b"abc", next, next))
-        .collect();
+    let mut nodes: Vec<Node> =
+        (1..chain).map(|next| question(random, b"abc", next, next)).collect();
     let end = random.between(chain, count - 1);
     nodes.push(question(random, b"abc", end, end));
     nodes.extend((0..leaves).map(|_| leaf(random, names.len())));
@@ -126,12 +125,7 @@ pub fn deepest(random: &mut Random, leaves: usize) -> Trees {
     for (i, start) in (0..13).map(near_end).enumerate() {
         starts[2 * i] = start as u16;
     }
-    let plan = Plan {
-        names,
-        nodes,
-        starts,
-        alphabet: b"abcdefgh".to_vec(),
-    };
+    let plan = Plan { names, nodes, starts, alphabet: b"abcdefgh".to_vec() };
     plan.trees()
 }
 
@@ -163,12 +157,7 @@ fn plan(random: &mut Random, shape: usize, most: usize) -> Plan {
         }
         _ => tree_of_each_letter(random, &alphabet, phones, most),
     };
-    Plan {
-        names,
-        nodes,
-        starts,
-        alphabet,
-    }
+    Plan { names, nodes, starts, alphabet }
 }
 
 /// The names of a phone table.
@@ -191,9 +180,7 @@ fn name(random: &mut Random) -> Vec<u8> {
         1 => (random.pick(&known).to_string() + random.pick(&["", "", "0", "1"])).into(),
         2 => format!("{}-{}", random.pick(&known), random.pick(&known)).into(),
         3 => format!("{}1-{}0", random.pick(&known), random.pick(&known)).into(),
-        4 => random
-            .pick(&ODD_NAMES.split(',').collect::<Vec<_>>())
-            .into(),
+        4 => random.pick(&ODD_NAMES.split(',').collect::<Vec<_>>()).into(),
         _ => {
             let len = random.between(0, 15);
             (0..len).map(|_| random.below(128) as u8).collect()
@@ -223,12 +210,7 @@ fn question(random: &mut Random, alphabet: &[u8], yes: usize, no: usize) -> Node
         2 => random.pick_byte(alphabet),
         _ => random.byte(),
     };
-    Node {
-        first,
-        second,
-        yes: yes as u16,
-        no: no as u16,
-    }
+    Node { first, second, yes: yes as u16, no: no as u16 }
 }
 
 /// Questions that lead from each node to the next, and now and then to one further on; leaves at the end.
@@ -265,11 +247,7 @@ fn renumbered(random: &mut Random, nodes: Vec<Node>) -> Vec<Node> {
     let moved = |link: u16| place.get(usize::from(link)).map_or(link, |p| *p as u16);
     let mut to = nodes.clone();
     for (node, p) in nodes.iter().zip(&place) {
-        to[*p] = Node {
-            yes: moved(node.yes),
-            no: moved(node.no),
-            ..*node
-        };
+        to[*p] = Node { yes: moved(node.yes), no: moved(node.no), ..*node };
     }
     to
 }
@@ -313,11 +291,7 @@ fn grow(
 fn break_one(random: &mut Random, sections: &mut Sections, names: usize) {
     let nodes = sections.model.len() / NODE;
     let node = NODE * random.below(nodes.max(1));
-    let Sections {
-        phones,
-        index,
-        model,
-    } = sections;
+    let Sections { phones, index, model } = sections;
     match random.below(8 + tables::BREAKS) {
         way if way < tables::BREAKS => tables::break_form(random, phones, names, way),
         4 => index.truncate(random.below(INDEX)),

@@ -25,10 +25,7 @@ pub struct Wanted {
 
 impl Wanted {
     pub fn new(word: impl Into<Vec<u8>>, tag: impl Into<Vec<u8>>) -> Wanted {
-        Wanted {
-            word: word.into(),
-            tag: tag.into(),
-        }
+        Wanted { word: word.into(), tag: tag.into() }
     }
 
     /// Whether it is refused by 3.
@@ -37,10 +34,7 @@ impl Wanted {
     }
 
     pub fn parts(&self) -> [Part<'_>; 2] {
-        [
-            word_part(&self.word),
-            Part::read("the tag", Form::Text, &self.tag),
-        ]
+        [word_part(&self.word), Part::read("the tag", Form::Text, &self.tag)]
     }
 
     /// What it has, for the table.
@@ -70,12 +64,7 @@ pub fn is_refused(word: &[u8]) -> bool {
 
 /// A word that 01 accepts; most are short.
 pub fn accepted(random: &mut Random, alphabet: &[u8]) -> Vec<u8> {
-    let len = random.ranged(&[
-        (24, 1, 10),
-        (6, 1, LONGEST),
-        (1, LONGEST, LONGEST),
-        (1, 0, 0),
-    ]);
+    let len = random.ranged(&[(24, 1, 10), (6, 1, LONGEST), (1, LONGEST, LONGEST), (1, 0, 0)]);
     // now and then a letter that the tables do not ask for
     let wild = random.once_in(4);
     let mut letter = |_| match wild && random.once_in(5) {
@@ -112,9 +101,7 @@ pub fn tag(random: &mut Random) -> Vec<u8> {
         0 => vec![],
         1 => b"nil".to_vec(),
         2 => vec![random.pick_byte(b"nnvvj0pNs")],
-        3 => random
-            .pick(&["nn", "noun", "vb", "v2", "NIL", "nill", "ni", "0n", "00"])
-            .into(),
+        3 => random.pick(&["nn", "noun", "vb", "v2", "NIL", "nill", "ni", "0n", "00"]).into(),
         4 => vec![random.byte() & 127],
         5 => vec![b'n'; LONGEST],
         6 => vec![b'v'; random.between(LONGEST + 1, 60)],
@@ -124,9 +111,7 @@ pub fn tag(random: &mut Random) -> Vec<u8> {
 
 /// Tags that the rules tell apart, and tags at 01's limits.
 pub fn tags() -> Vec<Vec<u8>> {
-    let plain = [
-        "", "nil", "n", "v", "0", "N", "NIL", "nill", "nn", "0n", "\0",
-    ];
+    let plain = ["", "nil", "n", "v", "0", "N", "NIL", "nill", "nn", "0n", "\0"];
     let mut tags: Vec<Vec<u8>> = plain.map(Vec::from).to_vec();
     tags.extend([46, 47, 48, 256].map(|len| vec![b'n'; len]));
     tags.extend([127, 128, 255].map(|b| vec![b]));
@@ -170,9 +155,7 @@ pub fn every<T: Clone>(alphabet: &[T], longest: usize) -> Vec<Vec<T>> {
     for _ in 0..longest {
         let longer = |word: &Vec<T>| {
             let word = word.clone();
-            alphabet
-                .iter()
-                .map(move |b| [&word[..], &[b.clone()]].concat())
+            alphabet.iter().map(move |b| [&word[..], &[b.clone()]].concat())
         };
         last = last.iter().flat_map(longer).collect();
         words.extend(last.iter().cloned());

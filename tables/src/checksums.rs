@@ -8,16 +8,12 @@ const POLYNOMIAL: u32 = 0xedb8_8320;
 /// The text of the file.
 pub fn text(files: &[(&'static str, Vec<u8>)]) -> String {
     let lines = files.iter();
-    lines
-        .map(|(name, bytes)| format!("{:08x} {name}\n", crc32(bytes)))
-        .collect()
+    lines.map(|(name, bytes)| format!("{:08x} {name}\n", crc32(bytes))).collect()
 }
 
 /// The CRC-32 of bytes.
 fn crc32(bytes: &[u8]) -> u32 {
-    !bytes
-        .iter()
-        .fold(u32::MAX, |sum, &byte| with_byte(sum, byte))
+    !bytes.iter().fold(u32::MAX, |sum, &byte| with_byte(sum, byte))
 }
 
 fn with_byte(sum: u32, byte: u8) -> u32 {

@@ -160,10 +160,8 @@ fn check<'a>(run: &Run, mut inner: impl Iterator<Item = &'a Set>) -> Result<(), 
         ));
     }
     if inner.any(|&set| set == EDGE) {
-        return Err(
-            "something stands beyond \"|\", the word's edge; let \"|\" be the outermost"
-                .to_string(),
-        );
+        return Err("something stands beyond \"|\", the word's edge; let \"|\" be the outermost"
+            .to_string());
     }
     Ok(())
 }
@@ -172,11 +170,7 @@ fn check<'a>(run: &Run, mut inner: impl Iterator<Item = &'a Set>) -> Result<(), 
 pub fn both(some: &[Context], others: &[Context]) -> Result<Vec<Context>, String> {
     let all: Vec<Context> = some
         .iter()
-        .flat_map(|a| {
-            others
-                .iter()
-                .map(move |b| std::array::from_fn(|i| a[i] & b[i]))
-        })
+        .flat_map(|a| others.iter().map(move |b| std::array::from_fn(|i| a[i] & b[i])))
         .collect();
     few(all)
 }

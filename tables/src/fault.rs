@@ -33,11 +33,7 @@ impl Faults {
     }
 
     pub fn add(&mut self, line: usize, sentence: impl Into<String>) {
-        self.list.push(Fault {
-            file: self.file.to_string(),
-            line,
-            sentence: sentence.into(),
-        });
+        self.list.push(Fault { file: self.file.to_string(), line, sentence: sentence.into() });
     }
 
     /// The value if there was no fault.

@@ -97,8 +97,7 @@ impl Rules {
             let rule = self.rule(head, tail)?;
             self.add(&rule, line.number)
         } else {
-            self.names
-                .define(head.trim_end_matches(lines::is_blank), tail)
+            self.names.define(head.trim_end_matches(lines::is_blank), tail)
         }
     }
 
@@ -116,9 +115,8 @@ impl Rules {
 
     fn rule<'a>(&self, head: &str, tail: &'a str) -> Result<Rule<'a>, String> {
         let form = "write one letter from a to z in brackets, as in LEFT [letter] RIGHT = PHONES";
-        let parts = head
-            .split_once('[')
-            .and_then(|(left, rest)| Some((left, rest.split_once(']')?)));
+        let parts =
+            head.split_once('[').and_then(|(left, rest)| Some((left, rest.split_once(']')?)));
         let Some((left, (middle, right))) = parts else {
             return Err(format!("the brackets do not fit; {form}"));
         };

@@ -70,9 +70,7 @@ fn entry(line: &Line) -> Result<Entry, String> {
     for (name, text) in [("word", word.as_str()), ("tag", tag)] {
         if text.len() > LONGEST_WORD {
             let length = text.len();
-            return Err(format!(
-                "the {name} has {length} bytes; write at most {LONGEST_WORD}"
-            ));
+            return Err(format!("the {name} has {length} bytes; write at most {LONGEST_WORD}"));
         }
     }
     let phones = phones_of(tail)?;
@@ -88,9 +86,7 @@ fn phones_of(text: &str) -> Result<Vec<String>, String> {
     phones.iter().try_for_each(|phone| phones::check(phone))?;
     if phones.len() > MOST_OF_ENTRY {
         let count = phones.len();
-        return Err(format!(
-            "the entry has {count} phones; write at most {MOST_OF_ENTRY}"
-        ));
+        return Err(format!("the entry has {count} phones; write at most {MOST_OF_ENTRY}"));
     }
     Ok(phones.into_iter().map(str::to_string).collect())
 }
@@ -121,11 +117,7 @@ pub fn sections(table: &[String], entries: &[Entry]) -> Sections {
         data.extend(entry.phones.iter().map(|phone| number(table, phone)));
     }
     let phones = phones::table(table);
-    Sections {
-        phones,
-        index,
-        data,
-    }
+    Sections { phones, index, data }
 }
 
 #[cfg(test)]
@@ -145,10 +137,7 @@ mod tests {
             "lead v : l iy1 d  # default\nLEAD noun more : l eh1 d\n\n\"a\" : ax0\nb nil :\n";
         let entries = read(text.as_bytes()).expect("the text is right");
         let keys: Vec<(&str, u8)> = entries.iter().map(|e| (e.word.as_str(), e.tag)).collect();
-        assert_eq!(
-            keys,
-            [("a", b'0'), ("b", b'0'), ("lead", b'v'), ("lead", b'n')]
-        );
+        assert_eq!(keys, [("a", b'0'), ("b", b'0'), ("lead", b'v'), ("lead", b'n')]);
         assert_eq!(entries[2].phones, ["l", "iy1", "d"]);
         assert!(entries[1].phones.is_empty());
     }
@@ -166,9 +155,7 @@ mod tests {
     fn phones_hold_every_vowel_with_both_digits() {
         let table = phones(&read(b"go : g ow1").expect("the text is right"));
         assert_eq!(table.len(), 41);
-        assert!(["oy0", "oy1", "g"]
-            .iter()
-            .all(|p| table.contains(&p.to_string())));
+        assert!(["oy0", "oy1", "g"].iter().all(|p| table.contains(&p.to_string())));
     }
 
     #[test]

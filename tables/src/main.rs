@@ -74,9 +74,7 @@ fn write(made: &sections::Made, output: &Path) -> Result<(), Fault> {
     sections::write(made, output)?;
     let [beginnings, endings] = made.cells;
     let (folder, entries, nodes) = (output.display(), made.entries, made.nodes);
-    print(&format!(
-        "{folder}: {entries} entries, {nodes} nodes, {beginnings} and {endings} cells"
-    ));
+    print(&format!("{folder}: {entries} entries, {nodes} nodes, {beginnings} and {endings} cells"));
     Ok(())
 }
 

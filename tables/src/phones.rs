@@ -45,9 +45,7 @@ pub fn check(phone: &str) -> Result<(), String> {
 
 /// Every vowel with each digit.
 pub fn stressed_vowels() -> impl Iterator<Item = String> {
-    VOWELS
-        .iter()
-        .flat_map(|vowel| [format!("{vowel}0"), format!("{vowel}1")])
+    VOWELS.iter().flat_map(|vowel| [format!("{vowel}0"), format!("{vowel}1")])
 }
 
 /// A section of phones: a u32 count, then each text behind its length.

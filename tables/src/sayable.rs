@@ -46,10 +46,7 @@ pub fn read(bytes: &[u8]) -> Result<Machines, Vec<Fault>> {
     }
     let beginnings = machine(&listed, Side::Beginnings, &mut faults);
     let endings = machine(&listed, Side::Endings, &mut faults);
-    faults.unless_any(Machines {
-        beginnings,
-        endings,
-    })
+    faults.unless_any(Machines { beginnings, endings })
 }
 
 /// The list of a line, `begin : CLUSTERS` or `end : CLUSTERS`.
@@ -61,21 +58,13 @@ fn clusters<'a>(line: &Line<'a>) -> Result<Listed<'a>, String> {
     let side = match lines::fields(head)[..] {
         ["begin"] => Side::Beginnings,
         ["end"] => Side::Endings,
-        _ => {
-            return Err(format!(
-                "neither \"begin\" nor \"end\" stands before the colon; {form}"
-            ))
-        }
+        _ => return Err(format!("neither \"begin\" nor \"end\" stands before the colon; {form}")),
     };
     let clusters = lines::fields(tail);
     for cluster in &clusters {
         check(cluster)?;
     }
-    Ok(Listed {
-        number: line.number,
-        side,
-        clusters,
-    })
+    Ok(Listed { number: line.number, side, clusters })
 }
 
 fn check(cluster: &str) -> Result<(), String> {
@@ -131,10 +120,7 @@ struct Graph {
 impl Graph {
     /// The graph in which a vowel comes first.
     fn new() -> Graph {
-        Graph {
-            steps: vec![BTreeMap::new()],
-            vowel: vec![true],
-        }
+        Graph { steps: vec![BTreeMap::new()], vowel: vec![true] }
     }
 
     fn accept_all(&mut self, list: &Listed) {
@@ -179,11 +165,7 @@ impl Graph {
                 cells.push(cell(b'V', DONE));
             }
             let steps = self.steps[state].iter();
-            holes.extend(
-                steps
-                    .zip(cells.len()..)
-                    .map(|((&s, &next), at)| (at, s, classes[next])),
-            );
+            holes.extend(steps.zip(cells.len()..).map(|((&s, &next), at)| (at, s, classes[next])));
             waiting.extend(self.steps[state].values());
             cells.resize(cells.len() + self.steps[state].len() + 1, 0);
         }
@@ -198,10 +180,8 @@ impl Graph {
         let mut known = HashMap::new();
         let mut classes = vec![0; self.steps.len()];
         for state in (0..self.steps.len()).rev() {
-            let steps: Vec<(u8, usize)> = self.steps[state]
-                .iter()
-                .map(|(&symbol, &next)| (symbol, classes[next]))
-                .collect();
+            let steps: Vec<(u8, usize)> =
+                self.steps[state].iter().map(|(&symbol, &next)| (symbol, classes[next])).collect();
             let fresh = known.len();
             classes[state] = *known.entry((self.vowel[state], steps)).or_insert(fresh);
         }
@@ -295,10 +275,7 @@ mod tests {
         ];
         for (text, said) in cases {
             let told = fault(text);
-            assert!(
-                told.starts_with(&format!("sayable.txt, line 1: {said}")),
-                "{told}"
-            );
+            assert!(told.starts_with(&format!("sayable.txt, line 1: {said}")), "{told}");
         }
     }
 
@@ -315,9 +292,6 @@ mod tests {
         }
         let told = fault(&text);
         let said = "the machine has a state above 511; write fewer clusters";
-        assert!(
-            told.starts_with("sayable.txt, line ") && told.contains(said),
-            "{told}"
-        );
+        assert!(told.starts_with("sayable.txt, line ") && told.contains(said), "{told}");
     }
 }

@@ -93,11 +93,7 @@ fn unwritable(path: &Path, error: &std::io::Error) -> Fault {
 
 /// A fault of a file as a whole.
 pub fn whole_file(path: &Path, sentence: String) -> Fault {
-    Fault {
-        file: path.display().to_string(),
-        line: 0,
-        sentence,
-    }
+    Fault { file: path.display().to_string(), line: 0, sentence }
 }
 
 #[cfg(test)]
@@ -122,10 +118,7 @@ mod tests {
         let faults = make(&folder).err().expect("nothing is there");
         let told: Vec<String> = faults.iter().map(|fault| fault.to_string()).collect();
         assert_eq!(told.len(), 3);
-        for (told, file) in told
-            .iter()
-            .zip(["lexicon.txt", "letters.txt", "sayable.txt"])
-        {
+        for (told, file) in told.iter().zip(["lexicon.txt", "letters.txt", "sayable.txt"]) {
             assert!(
                 told.contains(file) && told.contains("there is no such file; write it"),
                 "{told}"
@@ -139,10 +132,7 @@ mod tests {
         let folder = scratch("folder");
         fs::create_dir_all(folder.join("letters.txt")).expect("a folder can be made");
         let told = source_text(&folder, letters::FILE).expect_err("it is a folder")[0].to_string();
-        assert!(
-            told.contains("cannot be read (") && told.contains("see to it"),
-            "{told}"
-        );
+        assert!(told.contains("cannot be read (") && told.contains("see to it"), "{told}");
         fs::remove_dir_all(folder).expect("the scratch folder can go");
     }
 
@@ -152,17 +142,11 @@ mod tests {
         let file = folder.join("file");
         fs::write(&file, "").expect("a file can be written");
         let made = make(&english()).unwrap_or_else(|faults| panic!("{}", faults[0]));
-        let told = write(&made, &file.join("inside"))
-            .expect_err("a file is no folder")
-            .to_string();
-        assert!(
-            told.contains("cannot be written (") && told.contains("name a folder"),
-            "{told}"
-        );
+        let told = write(&made, &file.join("inside")).expect_err("a file is no folder").to_string();
+        assert!(told.contains("cannot be written (") && told.contains("name a folder"), "{told}");
         fs::create_dir_all(folder.join("out/lex.data")).expect("a folder can be made");
-        let told = write(&made, &folder.join("out"))
-            .expect_err("a section is a folder")
-            .to_string();
+        let told =
+            write(&made, &folder.join("out")).expect_err("a section is a folder").to_string();
         assert!(told.contains("lex.data: cannot be written ("), "{told}");
         fs::remove_dir_all(folder).expect("the scratch folder can go");
     }

@@ -48,11 +48,7 @@ pub fn read(bytes: &[u8]) -> Result<Trees, Vec<Fault>> {
             }
         }
     }
-    faults.unless_any(Trees {
-        phones: phones::table(&rules.leaves),
-        index,
-        model: nodes.model(),
-    })
+    faults.unless_any(Trees { phones: phones::table(&rules.leaves), index, model: nodes.model() })
 }
 
 fn too_many() -> String {
@@ -79,9 +75,7 @@ impl Nodes {
         if let Some(&number) = self.trees.get(&cases) {
             return Some(number);
         }
-        let asked = ORDER
-            .into_iter()
-            .find(|&f| cases.iter().any(|case| case.features[f] != ANY));
+        let asked = ORDER.into_iter().find(|&f| cases.iter().any(|case| case.features[f] != ANY));
         let number = match asked {
             None => self.node((LEAF, cases[0].leaf, 0, 0))?,
             Some(feature) => self.questions(&cases, feature)?,
@@ -271,30 +265,18 @@ mod tests {
         ];
         for (rule, said) in cases {
             let told = fault(rule, "");
-            assert!(
-                told.starts_with(&format!("letters.txt, line 1: {said}")),
-                "{told}"
-            );
+            assert!(told.starts_with(&format!("letters.txt, line 1: {said}")), "{told}");
         }
     }
 
     #[test]
     fn faults_between_lines_are_told_at_the_later_one() {
         let told = fault("A = a\nA = e", "");
-        assert!(
-            told.starts_with("letters.txt, line 2: A is defined above; choose"),
-            "{told}"
-        );
+        assert!(told.starts_with("letters.txt, line 2: A is defined above; choose"), "{told}");
         let told = fault("A = ab\n[a]!A = ey", "");
-        assert!(
-            told.starts_with("letters.txt, line 2: \"!\" needs one letter"),
-            "{told}"
-        );
+        assert!(told.starts_with("letters.txt, line 2: \"!\" needs one letter"), "{told}");
         let told = fault("[a] = ey\n[a]b = ae", "a");
-        assert!(
-            told.starts_with("letters.txt, line 2: line 1 fits every a"),
-            "{told}"
-        );
+        assert!(told.starts_with("letters.txt, line 2: line 1 fits every a"), "{told}");
         let pairs = "A = ab ac\n[e]A A = ey\n[a]A A A = ey";
         assert!(fault(pairs, "").starts_with("letters.txt, line 3: the context reaches 6"));
         let many = "A = ab ba aa bb ca ac bc cb\n[e] A & A & A & A = ey";
@@ -307,10 +289,7 @@ mod tests {
     fn a_letter_without_a_last_rule_is_told() {
         let told = fault("[q]u = k", "q");
         let said = "the letter q has no last rule without context; add one, such as [q] = PHONES";
-        assert!(
-            told.starts_with(&format!("letters.txt, line 1: {said}")),
-            "{told}"
-        );
+        assert!(told.starts_with(&format!("letters.txt, line 1: {said}")), "{told}");
         assert!(fault("", "z").starts_with("letters.txt: the letter z has no last rule"));
     }
 
@@ -330,9 +309,7 @@ mod tests {
         ] {
             fault(rule, "q");
         }
-        let faults = read(b"[a] = eyy\nVOWEL = 7")
-            .err()
-            .expect("the rules are faulty");
+        let faults = read(b"[a] = eyy\nVOWEL = 7").err().expect("the rules are faulty");
         assert_eq!(faults.len(), 2 + 25);
     }
 
@@ -342,28 +319,18 @@ mod tests {
             "aa", "ae", "ah", "ao", "aw", "ax", "ay", "eh", "er", "ey", "ih", "iy", "ow", "oy",
             "uh", "uw",
         ];
-        let pairs = phones
-            .iter()
-            .flat_map(|a| phones.iter().map(move |b| format!("{a} {b}")));
+        let pairs = phones.iter().flat_map(|a| phones.iter().map(move |b| format!("{a} {b}")));
         let letters = ('a'..='z').flat_map(|c| ('a'..='z').map(move |d| format!("{c}{d}")));
-        let rules = pairs
-            .zip(letters)
-            .map(|(pair, right)| format!("[z]{right} = {pair}\n"));
+        let rules = pairs.zip(letters).map(|(pair, right)| format!("[z]{right} = {pair}\n"));
         let text = format!("{}[a] = k\n{}", rules.collect::<String>(), last_rules("a"));
         let faults = read(text.as_bytes()).err().expect("the rules are faulty");
         let told = faults[0].to_string();
-        assert!(
-            told.starts_with("letters.txt, line 257: the rules give more than 256"),
-            "{told}"
-        );
+        assert!(told.starts_with("letters.txt, line 257: the rules give more than 256"), "{told}");
     }
 
     #[test]
     fn too_many_nodes_are_told() {
-        let mut nodes = Nodes {
-            list: vec![(0, 0, 0, 0); MOST_NODES - 1],
-            ..Nodes::default()
-        };
+        let mut nodes = Nodes { list: vec![(0, 0, 0, 0); MOST_NODES - 1], ..Nodes::default() };
         assert!(nodes.node((LEAF, 1, 0, 0)).is_some());
         assert!(nodes.node((LEAF, 2, 0, 0)).is_none());
         assert!(nodes.node((LEAF, 1, 0, 0)).is_some());

@@ -82,9 +82,7 @@ fn every_word_of_up_to_three_letters_is_predicted() {
 #[test]
 fn clusters_decide_what_can_be_said() {
     let tables = tables();
-    for word in [
-        "strand", "cue", "fresnel", "thwart", "lights", "amp", "go", "nasa",
-    ] {
+    for word in ["strand", "cue", "fresnel", "thwart", "lights", "amp", "go", "nasa"] {
         assert_eq!(tables.sayable().is_sayable(word), Ok(true), "{word}");
     }
     for word in ["xqz", "nsa", "dmx", "rgb", "", "bcd", "ubcd"] {

@@ -35,11 +35,7 @@ fn say(lexicon: &Lexicon, letters: &Letters, words: &[String]) -> Result<(), Box
             let phones: Vec<&str> = syllable.phones().collect();
             format!("{} {}", phones.join(" "), syllable.stress())
         });
-        println!(
-            "{}: {}",
-            word.text(),
-            syllables.collect::<Vec<String>>().join(" - ")
-        );
+        println!("{}: {}", word.text(), syllables.collect::<Vec<String>>().join(" - "));
     }
     Ok(())
 }

@@ -52,11 +52,7 @@ impl<'s> Entries<'s> {
             Some(slot) => (field(slot, FIRST), field(slot, USED) + 1),
             None => (0, 0),
         };
-        Entries {
-            slots: &bytes[..SLOT_BYTES * used.min(lent)],
-            next,
-            met: [false; MOST_SLOTS],
-        }
+        Entries { slots: &bytes[..SLOT_BYTES * used.min(lent)], next, met: [false; MOST_SLOTS] }
     }
 
     /// A slot that is used and was not met.

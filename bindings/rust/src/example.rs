@@ -21,10 +21,7 @@ pub const LETTERS: Letters<'static> = Letters {
 };
 
 /// A word of letters that has a vowel.
-pub const SAYABLE: Sayable<'static> = Sayable {
-    prefix: &MACHINE,
-    suffix: &MACHINE,
-};
+pub const SAYABLE: Sayable<'static> = Sayable { prefix: &MACHINE, suffix: &MACHINE };
 
 /// Letter n starts at node n.
 const FIRST_NODES: [u8; 52] = {

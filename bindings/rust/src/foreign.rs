@@ -217,14 +217,7 @@ pub fn predict([phones, index, model]: [&[u8]; 3], word: &[u8], out: &mut [u8]) 
 }
 
 pub fn syllabify(phones: &[u8], marks: &mut [u8]) -> Answer {
-    unsafe {
-        pronouncer_syllabify(
-            phones.as_ptr(),
-            phones.len(),
-            marks.as_mut_ptr(),
-            marks.len(),
-        )
-    }
+    unsafe { pronouncer_syllabify(phones.as_ptr(), phones.len(), marks.as_mut_ptr(), marks.len()) }
 }
 
 pub fn is_sayable(prefix: &[u8], suffix: &[u8], word: &[u8]) -> Answer {

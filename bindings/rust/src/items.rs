@@ -27,11 +27,7 @@ pub struct Items<'s>(&'s [u8]);
 impl<'s> Items<'s> {
     pub fn of(bytes: &'s [u8]) -> Items<'s> {
         let lent = (bytes.len() / ITEM_BYTES).min(MOST_ITEMS);
-        let used = if lent == 0 {
-            0
-        } else {
-            Items(bytes).field(0, USED) + 1
-        };
+        let used = if lent == 0 { 0 } else { Items(bytes).field(0, USED) + 1 };
         Items(&bytes[..ITEM_BYTES * used.min(lent)])
     }
 
@@ -44,10 +40,7 @@ impl<'s> Items<'s> {
     }
 
     fn field(self, at: usize, place: usize) -> usize {
-        usize::from(u16::from_le_bytes([
-            self.byte(at, place),
-            self.byte(at, place + 1),
-        ]))
+        usize::from(u16::from_le_bytes([self.byte(at, place), self.byte(at, place + 1)]))
     }
 
     pub fn text(self, at: usize, most: usize) -> &'s str {
@@ -88,28 +81,15 @@ impl<'s> Chain<'s> {
         parent: Option<usize>,
         link: usize,
     ) -> Chain<'s> {
-        let next = if items.0.is_empty() {
-            0
-        } else {
-            items.field(from, first)
-        };
+        let next = if items.0.is_empty() { 0 } else { items.field(from, first) };
         let met = [0; MOST_ITEMS / 64];
-        Chain {
-            items,
-            next,
-            kind,
-            parent,
-            link,
-            met,
-        }
+        Chain { items, next, kind, parent, link, met }
     }
 
     fn belongs(&self, at: usize) -> bool {
         self.items.has(at)
             && self.items.byte(at, KIND) == self.kind
-            && self
-                .parent
-                .is_none_or(|parent| self.items.field(at, PARENT) == parent)
+            && self.parent.is_none_or(|parent| self.items.field(at, PARENT) == parent)
             && self.met[at / 64] & 1 << (at % 64) == 0
     }
 }

@@ -55,9 +55,7 @@ impl<'a> PhoneList<'a> {
             cell[0] = phone.len() as u8;
             cell[1..=phone.len()].copy_from_slice(phone.as_bytes());
         }
-        Ok(PhoneList {
-            cells: &room[..CELL_BYTES * count],
-        })
+        Ok(PhoneList { cells: &room[..CELL_BYTES * count] })
     }
 
     /// The cells.

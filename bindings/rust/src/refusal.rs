@@ -151,11 +151,7 @@ pub struct Refused {
 /// Without a line.
 impl From<Refusal> for Refused {
     fn from(refusal: Refusal) -> Refused {
-        Refused {
-            refusal,
-            line: 0,
-            unsound: None,
-        }
+        Refused { refusal, line: 0, unsound: None }
     }
 }
 

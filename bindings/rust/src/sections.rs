@@ -188,9 +188,7 @@ impl<'a> Letters<'a> {
         word: impl AsRef<[u8]>,
         out: &'o mut [u8],
     ) -> Result<PhoneList<'o>, Refused> {
-        let count = foreign::predict(self.sections(), word.as_ref(), out)
-            .accepted()?
-            .count();
+        let count = foreign::predict(self.sections(), word.as_ref(), out).accepted()?.count();
         Ok(PhoneList::from_cells(&out[..CELL_BYTES * count]))
     }
 
@@ -230,22 +228,14 @@ fn lengths(f: &mut fmt::Formatter<'_>, name: &str, sections: &[(&str, &[u8])]) -
 
 impl fmt::Debug for Lexicon<'_> {
     fn fmt(&self, f: &mut fmt::Formatter<'_>) -> fmt::Result {
-        let sections = [
-            ("phones", self.phones),
-            ("index", self.index),
-            ("data", self.data),
-        ];
+        let sections = [("phones", self.phones), ("index", self.index), ("data", self.data)];
         lengths(f, "Lexicon", &sections)
     }
 }
 
 impl fmt::Debug for Letters<'_> {
     fn fmt(&self, f: &mut fmt::Formatter<'_>) -> fmt::Result {
-        let sections = [
-            ("phones", self.phones),
-            ("index", self.index),
-            ("model", self.model),
-        ];
+        let sections = [("phones", self.phones), ("index", self.index), ("model", self.model)];
         lengths(f, "Letters", &sections)
     }
 }

@@ -103,9 +103,7 @@ impl<'a> Sheet<'a> {
     /// ```
     pub fn phone_string<'o>(&self, out: &'o mut [u8]) -> Result<&'o str, Refused> {
         let answer = foreign::phone_string(self.bytes, out);
-        let count = answer
-            .accepted_on(|| unsound::in_sheet(self.bytes))?
-            .count();
+        let count = answer.accepted_on(|| unsound::in_sheet(self.bytes))?.count();
         // A sound sheet's texts are ASCII.
         Ok(core::str::from_utf8(&out[..count]).unwrap_or(""))
     }

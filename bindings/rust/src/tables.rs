@@ -62,28 +62,17 @@ impl Tables {
 
     /// The sections of the lexicon.
     pub fn lexicon(&self) -> Lexicon<'_> {
-        Lexicon {
-            phones: self.at(0),
-            index: self.at(1),
-            data: self.at(2),
-        }
+        Lexicon { phones: self.at(0), index: self.at(1), data: self.at(2) }
     }
 
     /// The sections of the letter trees.
     pub fn letters(&self) -> Letters<'_> {
-        Letters {
-            phones: self.at(3),
-            index: self.at(4),
-            model: self.at(5),
-        }
+        Letters { phones: self.at(3), index: self.at(4), model: self.at(5) }
     }
 
     /// The sections that tell whether a word can be said; one that the folder does not have is empty.
     pub fn sayable(&self) -> Sayable<'_> {
-        Sayable {
-            prefix: self.at(6),
-            suffix: self.at(7),
-        }
+        Sayable { prefix: self.at(6), suffix: self.at(7) }
     }
 
     /// The section of a file name; none for other names, and where the folder has no such file.
@@ -101,9 +90,7 @@ impl Tables {
 impl fmt::Debug for Tables {
     fn fmt(&self, f: &mut fmt::Formatter<'_>) -> fmt::Result {
         let lengths = self.sections.iter().map(|s| s.as_ref().map(Vec::len));
-        f.debug_map()
-            .entries(SECTION_NAMES.iter().zip(lengths))
-            .finish()
+        f.debug_map().entries(SECTION_NAMES.iter().zip(lengths)).finish()
     }
 }
 

@@ -72,10 +72,7 @@ impl Answer {
     /// The answer of an accepted call on a store or a sheet; `find` tells the cause of a refusal by 2.
     pub fn accepted_on(self, find: impl FnOnce() -> Option<Unsound>) -> Result<Answer, Refused> {
         self.accepted().map_err(|refused| match refused.refusal {
-            Refusal::Unsound => Refused {
-                unsound: find(),
-                ..refused
-            },
+            Refusal::Unsound => Refused { unsound: find(), ..refused },
             _ => refused,
         })
     }

@@ -14,10 +14,7 @@ struct Show {
 impl Show {
     /// A store of two entries and a sheet of 24 items, in bytes that held something else.
     fn begun() -> Show {
-        let mut show = Show {
-            slots: vec![0xff; 3 * 512],
-            items: vec![0xff; 25 * 64 + 5],
-        };
+        let mut show = Show { slots: vec![0xff; 3 * 512], items: vec![0xff; 25 * 64 + 5] };
         Store::new_store(&mut show.slots).expect("a store");
         show.clear();
         show
@@ -58,10 +55,7 @@ impl Show {
             .collect();
         assert_eq!(by_words, sheet.phones().collect::<Vec<_>>());
         let mut out = [0; 256];
-        assert_eq!(
-            sheet.phone_string(&mut out),
-            Ok(by_words.join(" ").as_str())
-        );
+        assert_eq!(sheet.phone_string(&mut out), Ok(by_words.join(" ").as_str()));
         reading(&sheet)
     }
 }
@@ -80,10 +74,7 @@ fn a_show() {
 
     // Refused calls change nothing.
     assert_eq!(show.say("", &"v".repeat(48)), Err(Refusal::Text));
-    assert_eq!(
-        show.add("lead", "", &["l", "qq", "d"]),
-        Err(Refusal::UnknownPhone)
-    );
+    assert_eq!(show.add("lead", "", &["l", "qq", "d"]), Err(Refusal::UnknownPhone));
     let stopped = show.add_text("lead : l ih d\nlead v l iy d");
     assert_eq!(stopped, Err((Refusal::Line, 2)));
     assert_eq!(show.reads(), three);

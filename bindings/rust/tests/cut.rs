@@ -41,18 +41,8 @@ fn lexicon() {
         phones(),
         |_| Refusal::Section,
     );
-    each_cut(
-        whole.index,
-        |index| lead(Lexicon { index, ..whole }),
-        phones(),
-        |_| Refusal::Section,
-    );
-    each_cut(
-        whole.data,
-        |data| lead(Lexicon { data, ..whole }),
-        phones(),
-        |_| Refusal::Damaged,
-    );
+    each_cut(whole.index, |index| lead(Lexicon { index, ..whole }), phones(), |_| Refusal::Section);
+    each_cut(whole.data, |data| lead(Lexicon { data, ..whole }), phones(), |_| Refusal::Damaged);
     for length in 0..whole.data.len() {
         let data = &cut(whole.data, length);
         assert_eq!(Lexicon { data, ..whole }.check_lexicon(), Ok(false));
@@ -64,9 +54,7 @@ fn letters() {
     let whole = example::LETTERS;
     let say = |letters: Letters<'_>| {
         let mut out = cut(&[9; 48], 48);
-        letters
-            .predict("faz", &mut out)
-            .map(|phones| phones.to_string())
+        letters.predict("faz", &mut out).map(|phones| phones.to_string())
     };
     let phones = || "f ae1 z".to_string();
     each_cut(
@@ -75,12 +63,7 @@ fn letters() {
         phones(),
         |_| Refusal::Section,
     );
-    each_cut(
-        whole.index,
-        |index| say(Letters { index, ..whole }),
-        phones(),
-        |_| Refusal::Section,
-    );
+    each_cut(whole.index, |index| say(Letters { index, ..whole }), phones(), |_| Refusal::Section);
     each_cut(
         whole.model,
         |model| say(Letters { model, ..whole }),
@@ -100,16 +83,7 @@ fn sayable() {
     let whole = example::SAYABLE;
     for length in 0..whole.prefix.len() {
         let bytes = &cut(whole.prefix, length);
-        for sayable in [
-            Sayable {
-                prefix: bytes,
-                ..whole
-            },
-            Sayable {
-                suffix: bytes,
-                ..whole
-            },
-        ] {
+        for sayable in [Sayable { prefix: bytes, ..whole }, Sayable { suffix: bytes, ..whole }] {
             let told = sayable.is_sayable("xylem");
             assert_eq!(told.is_err(), length < 4, "cut after {length}: {told:?}");
         }
@@ -124,10 +98,7 @@ fn sheet_and_store() {
     let mut items = cut(&[7; 6 * 64], 6 * 64);
     let mut store = Store::new_store(&mut slots).expect("a store");
     let text = cut(b"fly n : f l ay1", 15);
-    assert_eq!(
-        store.add_entries(&example::LEXICON, &mut spare, &text),
-        Ok(1)
-    );
+    assert_eq!(store.add_entries(&example::LEXICON, &mut spare, &text), Ok(1));
     let mut sheet = Sheet::new_sheet(&mut items).expect("a sheet");
     let (word, tag) = (cut(b"Fly", 3), cut(b"n", 1));
     sheet
@@ -137,17 +108,12 @@ fn sheet_and_store() {
 
     let string = |bytes: &[u8]| {
         let (mut bytes, mut out) = (cut(bytes, bytes.len()), cut(&[9; 6], 6));
-        Sheet::over(&mut bytes)
-            .phone_string(&mut out)
-            .map(str::to_string)
+        Sheet::over(&mut bytes).phone_string(&mut out).map(str::to_string)
     };
     each_cut(sheet.bytes(), string, "f l ay".into(), |_| Refusal::Unsound);
     for length in (0..store_bytes.len()).step_by(64) {
         let (mut bytes, mut out) = (cut(&store_bytes, length), [0; 48]);
         let told = example::LEXICON.lookup(&Store::over(&mut bytes), "fly", "", &mut out);
-        assert_eq!(
-            told.map(drop).map_err(|refused| refused.refusal),
-            Err(Refusal::Unsound)
-        );
+        assert_eq!(told.map(drop).map_err(|refused| refused.refusal), Err(Refusal::Unsound));
     }
 }

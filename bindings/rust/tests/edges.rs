@@ -13,32 +13,21 @@ fn a_store_of_127_entries() {
     let phones = PhoneList::from_cells(&cells);
     for number in 0..127 {
         let word = format!("word{number}");
-        assert_eq!(
-            store.add_entry(&NO_WORDS, &word, "", phones),
-            Ok(()),
-            "{word}"
-        );
+        assert_eq!(store.add_entry(&NO_WORDS, &word, "", phones), Ok(()), "{word}");
     }
     let before = store.bytes().to_vec();
-    let refused = store
-        .add_entry(&NO_WORDS, "word127", "", phones)
-        .unwrap_err();
+    let refused = store.add_entry(&NO_WORDS, "word127", "", phones).unwrap_err();
     assert_eq!((refused.refusal, refused.line), (Refusal::Full, 0));
     assert_eq!(store.bytes(), before);
     assert_eq!(store.add_entry(&NO_WORDS, "WORD0", "nil", phones), Ok(()));
     assert_eq!(
-        store
-            .add_entry(&NO_WORDS, "word0", "n", phones)
-            .unwrap_err()
-            .refusal,
+        store.add_entry(&NO_WORDS, "word0", "n", phones).unwrap_err().refusal,
         Refusal::Full
     );
 
     let mut out = [0; 24 * 16];
     for word in ["word0", "word126"] {
-        let found = NO_WORDS
-            .lookup(&store, word, "", &mut out)
-            .expect("it is accepted");
+        let found = NO_WORDS.lookup(&store, word, "", &mut out).expect("it is accepted");
         assert_eq!(found.expect("it was added").phones.len(), 24);
     }
 }
@@ -49,22 +38,13 @@ fn a_full_store_in_front_of_more_bytes() {
     let mut store = Store::new_store(&mut slots).expect("a store");
     let none = PhoneList::from_cells(b"");
     assert_eq!(store.add_entry(&NO_WORDS, "a", "", none), Ok(()));
-    assert_eq!(
-        store
-            .add_entry(&NO_WORDS, "b", "", none)
-            .unwrap_err()
-            .refusal,
-        Refusal::Full
-    );
+    assert_eq!(store.add_entry(&NO_WORDS, "b", "", none).unwrap_err().refusal, Refusal::Full);
 
     let mut longer = [store.bytes(), &[0xff; 512]].concat();
     let mut store = Store::over(&mut longer);
     assert_eq!(store.add_entry(&NO_WORDS, "b", "", none), Ok(()));
     for word in ["a", "b"] {
-        assert!(NO_WORDS
-            .lookup(&store, word, "", &mut [])
-            .expect("it is accepted")
-            .is_some());
+        assert!(NO_WORDS.lookup(&store, word, "", &mut []).expect("it is accepted").is_some());
     }
 }
 
@@ -132,10 +112,7 @@ fn a_sheet_of_1023_items() {
     let mut out = vec![0; string.len()];
     assert_eq!(sheet.phone_string(&mut out).expect("it fits"), string);
     let mut out = vec![9; string.len() - 1];
-    assert_eq!(
-        sheet.phone_string(&mut out).unwrap_err().refusal,
-        Refusal::Short
-    );
+    assert_eq!(sheet.phone_string(&mut out).unwrap_err().refusal, Refusal::Short);
     assert!(out.iter().all(|&byte| byte == 9));
 }
 
@@ -146,9 +123,7 @@ fn a_sheet_with_a_remainder() {
     let mut sheet = Sheet::new_sheet(&mut lent[1..]).expect("a sheet at an odd place");
     assert_eq!(fill(&mut sheet, &store, ","), 1022);
     assert_eq!(sheet.words().count(), 1022);
-    assert!(lent[1 + 1023 * ITEM_BYTES..]
-        .iter()
-        .all(|&byte| byte == 0xee));
+    assert!(lent[1 + 1023 * ITEM_BYTES..].iter().all(|&byte| byte == 0xee));
     assert_eq!(lent[0], 0xee);
 }
 
@@ -157,36 +132,18 @@ fn outputs_of_exactly_the_bytes() {
     let mut slots = [0; 512];
     let store = Store::new_store(&mut slots).expect("a store");
     let mut out = [9; 48];
-    let found = example::LEXICON
-        .lookup(&store, "cat", "", &mut out)
-        .expect("it fits");
+    let found = example::LEXICON.lookup(&store, "cat", "", &mut out).expect("it fits");
     assert_eq!(found.expect("it is there").phones.to_string(), "k ae1 t");
-    assert_eq!(
-        example::LETTERS
-            .predict("tab", &mut out)
-            .expect("it fits")
-            .len(),
-        3
-    );
+    assert_eq!(example::LETTERS.predict("tab", &mut out).expect("it fits").len(), 3);
 
     let mut long = [9; 64];
     example::LETTERS.predict("tab", &mut long).expect("it fits");
-    assert_eq!(
-        long[48..],
-        [9; 16],
-        "the output keeps its bytes behind the answer"
-    );
+    assert_eq!(long[48..], [9; 16], "the output keeps its bytes behind the answer");
     assert!(example::LEXICON
         .lookup(&store, ",", "", &mut [])
         .expect("no phones need no room")
         .is_some());
-    assert_eq!(
-        example::LETTERS
-            .predict("x", &mut long)
-            .expect("it fits")
-            .to_string(),
-        "k s"
-    );
+    assert_eq!(example::LETTERS.predict("x", &mut long).expect("it fits").to_string(), "k s");
 }
 
 #[test]
@@ -214,8 +171,5 @@ fn sections_tell_their_lengths() {
         format!("{:?}", example::LETTERS),
         "Letters { phones: 70 bytes, index: 52 bytes, model: 156 bytes }"
     );
-    assert_eq!(
-        format!("{:?}", example::SAYABLE),
-        "Sayable { prefix: 50 bytes, suffix: 50 bytes }"
-    );
+    assert_eq!(format!("{:?}", example::SAYABLE), "Sayable { prefix: 50 bytes, suffix: 50 bytes }");
 }

@@ -26,20 +26,15 @@ fn a_store(slots: usize, added: &[Added]) -> Vec<u8> {
     let mut store = Store::new_store(&mut bytes).expect("a store");
     for (word, tag, phones) in added {
         let cells = cells(phones);
-        store
-            .add_entry(&NO_WORDS, word, tag, PhoneList::from_cells(&cells))
-            .expect("it is added");
+        store.add_entry(&NO_WORDS, word, tag, PhoneList::from_cells(&cells)).expect("it is added");
     }
     bytes
 }
 
 /// Iris, lead, and iris once more, which is then the last; slot 3 is not used.
 fn two_entries() -> Vec<u8> {
-    let added: [Added; 3] = [
-        ("Iris", "noun", &["ay", "r"]),
-        ("lead", "", &[]),
-        ("iris", "n", &["ay", "r", "ih", "s"]),
-    ];
+    let added: [Added; 3] =
+        [("Iris", "noun", &["ay", "r"]), ("lead", "", &[]), ("iris", "n", &["ay", "r", "ih", "s"])];
     a_store(4, &added)
 }
 
@@ -51,10 +46,7 @@ fn in_the_order_of_the_store() {
     let store = Store::over(&mut bytes);
     let last = store.iter().last().expect("there are two");
     assert_eq!((last.word, last.tag), ("iris", "n"));
-    assert_eq!(
-        last.phones.iter().collect::<Vec<_>>(),
-        ["ay", "r", "ih", "s"]
-    );
+    assert_eq!(last.phones.iter().collect::<Vec<_>>(), ["ay", "r", "ih", "s"]);
     let mut entries = store.iter();
     entries.next();
     assert_eq!(format!("{entries:?}"), "[iris n : ay r ih s]");
@@ -66,9 +58,7 @@ fn entries_go_into_another_store() {
     let mut longer = a_store(9, &[]);
     let mut other = Store::over(&mut longer);
     for entry in &Store::over(&mut bytes) {
-        other
-            .add_entry(&NO_WORDS, entry.word, entry.tag, entry.phones)
-            .expect("it is added");
+        other.add_entry(&NO_WORDS, entry.word, entry.tag, entry.phones).expect("it is added");
     }
     assert_eq!(format!("{other:?}"), "[lead 0 : , iris n : ay r ih s]");
 }
@@ -76,17 +66,12 @@ fn entries_go_into_another_store() {
 #[test]
 fn a_full_store() {
     let words: Vec<String> = (0..127).map(|number| format!("word{number}")).collect();
-    let added: Vec<Added> = words
-        .iter()
-        .map(|word| (word.as_str(), "", &["k"; 24][..]))
-        .collect();
+    let added: Vec<Added> = words.iter().map(|word| (word.as_str(), "", &["k"; 24][..])).collect();
     let mut bytes = a_store(128, &added);
     let store = Store::over(&mut bytes);
     assert_eq!(store.len(), 127);
     assert!(store.iter().map(|entry| entry.word).eq(words));
-    assert!(store
-        .iter()
-        .all(|entry| entry.phones.to_string() == ["k"; 24].join(" ")));
+    assert!(store.iter().all(|entry| entry.phones.to_string() == ["k"; 24].join(" ")));
 }
 
 #[test]
@@ -141,10 +126,7 @@ fn every_length_and_any_bytes() {
         for length in [0, 1, 511, 512, 1023, 65_535, 65_536, 66_048, 200_000] {
             let mut bytes = vec![fill; length];
             reading(&mut bytes);
-            assert!(
-                Store::over(&mut bytes).len() < 128,
-                "{length} bytes of {fill}"
-            );
+            assert!(Store::over(&mut bytes).len() < 128, "{length} bytes of {fill}");
         }
     }
 }
@@ -153,9 +135,7 @@ fn every_length_and_any_bytes() {
 fn links_by_chance() {
     let mut state = 1u64;
     let mut chance = || {
-        state = state
-            .wrapping_mul(6_364_136_223_846_793_005)
-            .wrapping_add(1);
+        state = state.wrapping_mul(6_364_136_223_846_793_005).wrapping_add(1);
         (state >> 57) as u8
     };
     for _ in 0..50 {

@@ -5,9 +5,7 @@ use std::path::{Path, PathBuf};
 use std::process::{Command, Output};
 
 fn c_file(name: &str) -> PathBuf {
-    Path::new(env!("CARGO_MANIFEST_DIR"))
-        .join("../c")
-        .join(name)
+    Path::new(env!("CARGO_MANIFEST_DIR")).join("../c").join(name)
 }
 
 /// Runs a compiler with all warnings as errors; nothing where there is none.
@@ -21,11 +19,7 @@ fn compiled(compiler: &str, arguments: &[&Path]) -> Option<Output> {
 }
 
 fn assert_accepted(output: Output) {
-    assert!(
-        output.status.success(),
-        "{}",
-        String::from_utf8_lossy(&output.stderr)
-    );
+    assert!(output.status.success(), "{}", String::from_utf8_lossy(&output.stderr));
 }
 
 #[test]
@@ -50,21 +44,12 @@ fn compiles_alone_as_cpp() {
 fn example_links_and_runs() {
     let example = Path::new(env!("CARGO_TARGET_TMPDIR")).join("example");
     let (source, library) = (c_file("example.c"), Path::new(env!("PRONOUNCER_FOUND")));
-    let arguments = [
-        Path::new("-std=c99"),
-        &source,
-        library,
-        Path::new("-o"),
-        &example,
-    ];
+    let arguments = [Path::new("-std=c99"), &source, library, Path::new("-o"), &example];
     let Some(output) = compiled("cc", &arguments) else {
         return;
     };
     assert_accepted(output);
     let said = Command::new(&example).output().expect("the example runs");
-    assert_eq!(
-        String::from_utf8_lossy(&said.stdout),
-        "t ao r m eh n t er ey\n"
-    );
+    assert_eq!(String::from_utf8_lossy(&said.stdout), "t ao r m eh n t er ey\n");
     assert_accepted(said);
 }

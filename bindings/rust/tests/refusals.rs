@@ -45,33 +45,15 @@ fn new_sheet(items: usize) -> Vec<u8> {
 /// The example with one section broken, for each that has a form of its own.
 fn broken_lexicons() -> [Lexicon<'static>; 2] {
     let whole = example::LEXICON;
-    [
-        Lexicon {
-            phones: BROKEN,
-            ..whole
-        },
-        Lexicon {
-            index: BROKEN,
-            ..whole
-        },
-    ]
+    [Lexicon { phones: BROKEN, ..whole }, Lexicon { index: BROKEN, ..whole }]
 }
 
 fn broken_letters() -> [Letters<'static>; 3] {
     let whole = example::LETTERS;
     [
-        Letters {
-            phones: BROKEN,
-            ..whole
-        },
-        Letters {
-            index: BROKEN,
-            ..whole
-        },
-        Letters {
-            model: BROKEN,
-            ..whole
-        },
+        Letters { phones: BROKEN, ..whole },
+        Letters { index: BROKEN, ..whole },
+        Letters { model: BROKEN, ..whole },
     ]
 }
 
@@ -80,10 +62,7 @@ fn check_lexicon() {
     for lexicon in broken_lexicons() {
         assert_eq!(lexicon.check_lexicon(), Err(refused(Refusal::Section)));
     }
-    let cut_off = Lexicon {
-        data: b"",
-        ..example::LEXICON
-    };
+    let cut_off = Lexicon { data: b"", ..example::LEXICON };
     assert_eq!(cut_off.check_lexicon(), Ok(false));
 }
 
@@ -103,61 +82,32 @@ fn lookup() {
         };
     let whole = example::LEXICON;
     for broken in broken_lexicons() {
-        stays(&mut out, Refusal::Section, |out| {
-            run(&broken, &bad, BAD_WORDS[0], b"", out)
-        });
+        stays(&mut out, Refusal::Section, |out| run(&broken, &bad, BAD_WORDS[0], b"", out));
     }
-    stays(&mut out, Refusal::Unsound, |out| {
-        run(&whole, &bad, BAD_WORDS[0], b"", out)
-    });
+    stays(&mut out, Refusal::Unsound, |out| run(&whole, &bad, BAD_WORDS[0], b"", out));
     for word in BAD_WORDS {
-        stays(&mut out, Refusal::Text, |out| {
-            run(&whole, &good, word, b"", out)
-        });
-        stays(&mut out, Refusal::Text, |out| {
-            run(&whole, &good, b"cat", word, out)
-        });
+        stays(&mut out, Refusal::Text, |out| run(&whole, &good, word, b"", out));
+        stays(&mut out, Refusal::Text, |out| run(&whole, &good, b"cat", word, out));
     }
-    let cut_off = Lexicon {
-        data: b"n\x03cat\x03\x00",
-        ..whole
-    };
-    stays(&mut out, Refusal::Damaged, |out| {
-        run(&cut_off, &good, b"cat", b"", out)
-    });
+    let cut_off = Lexicon { data: b"n\x03cat\x03\x00", ..whole };
+    stays(&mut out, Refusal::Damaged, |out| run(&cut_off, &good, b"cat", b"", out));
     let [phones, index, data] = &overlong();
-    let long = Lexicon {
-        phones,
-        index,
-        data,
-    };
-    stays(&mut out[..0], Refusal::Phones, |out| {
-        run(&long, &good, b"cat", b"", out)
-    });
-    stays(&mut out[..47], Refusal::Short, |out| {
-        run(&whole, &good, b"cat", b"", out)
-    });
+    let long = Lexicon { phones, index, data };
+    stays(&mut out[..0], Refusal::Phones, |out| run(&long, &good, b"cat", b"", out));
+    stays(&mut out[..47], Refusal::Short, |out| run(&whole, &good, b"cat", b"", out));
 }
 
 #[test]
 fn predict() {
     let mut out = [9; LIST_BYTES];
     for letters in broken_letters() {
-        stays(&mut out, Refusal::Section, |out| {
-            letters.predict(BAD_WORDS[0], out).map(drop)
-        });
+        stays(&mut out, Refusal::Section, |out| letters.predict(BAD_WORDS[0], out).map(drop));
     }
     for word in BAD_WORDS {
-        stays(&mut out, Refusal::Text, |out| {
-            NO_TREES.predict(word, out).map(drop)
-        });
+        stays(&mut out, Refusal::Text, |out| NO_TREES.predict(word, out).map(drop));
     }
-    stays(&mut out[..0], Refusal::Damaged, |out| {
-        NO_TREES.predict("cat", out).map(drop)
-    });
-    stays(&mut out[..47], Refusal::Short, |out| {
-        example::LETTERS.predict("cat", out).map(drop)
-    });
+    stays(&mut out[..0], Refusal::Damaged, |out| NO_TREES.predict("cat", out).map(drop));
+    stays(&mut out[..47], Refusal::Short, |out| example::LETTERS.predict("cat", out).map(drop));
 }
 
 #[test]
@@ -172,28 +122,14 @@ fn syllabify() {
     stays(&mut marks, Refusal::Text, |marks| run(&high, marks));
     stays(&mut marks[..0], Refusal::Phones, |marks| run(&many, marks));
     stays(&mut marks, Refusal::Phones, |marks| run(&long, marks));
-    stays(&mut marks[..95], Refusal::Short, |marks| {
-        run(&many[16..], marks)
-    });
+    stays(&mut marks[..95], Refusal::Short, |marks| run(&many[16..], marks));
 }
 
 #[test]
 fn is_sayable() {
     let whole = example::SAYABLE;
-    for sayable in [
-        Sayable {
-            prefix: BROKEN,
-            ..whole
-        },
-        Sayable {
-            suffix: BROKEN,
-            ..whole
-        },
-    ] {
-        assert_eq!(
-            sayable.is_sayable(BAD_WORDS[0]),
-            Err(refused(Refusal::Section))
-        );
+    for sayable in [Sayable { prefix: BROKEN, ..whole }, Sayable { suffix: BROKEN, ..whole }] {
+        assert_eq!(sayable.is_sayable(BAD_WORDS[0]), Err(refused(Refusal::Section)));
     }
     for word in BAD_WORDS {
         assert_eq!(whole.is_sayable(word), Err(refused(Refusal::Text)));
@@ -202,12 +138,8 @@ fn is_sayable() {
 
 #[test]
 fn new_store_and_new_sheet() {
-    stays(&mut [7; 513], Refusal::Unsound, |bytes| {
-        Store::new_store(bytes).map(drop)
-    });
-    stays(&mut [7; 63], Refusal::Unsound, |bytes| {
-        Sheet::new_sheet(bytes).map(drop)
-    });
+    stays(&mut [7; 513], Refusal::Unsound, |bytes| Store::new_store(bytes).map(drop));
+    stays(&mut [7; 63], Refusal::Unsound, |bytes| Sheet::new_sheet(bytes).map(drop));
 }
 
 #[test]
@@ -215,10 +147,7 @@ fn add_entry() {
     let many = cells(&[&["k"; 24][..], &["zz"]].concat());
     let (many, known) = (PhoneList::from_cells(&many), cells(&["k"; 25]));
     let known = PhoneList::from_cells(&known);
-    let broken = Lexicon {
-        phones: BROKEN,
-        ..NO_WORDS
-    };
+    let broken = Lexicon { phones: BROKEN, ..NO_WORDS };
     let (mut full, mut bad) = (new_store(1), vec![7; 512]);
     stays(&mut bad, Refusal::Section, |bytes| {
         Store::over(bytes).add_entry(&broken, BAD_WORDS[0], "", many)
@@ -241,28 +170,18 @@ fn add_entry() {
         Store::over(bytes).add_entry(&NO_WORDS, "a", "", known)
     });
     let none = PhoneList::from_cells(b"");
-    stays(&mut full, Refusal::Full, |bytes| {
-        Store::over(bytes).add_entry(&NO_WORDS, "a", "", none)
-    });
+    stays(&mut full, Refusal::Full, |bytes| Store::over(bytes).add_entry(&NO_WORDS, "a", "", none));
 }
 
 #[test]
 fn add_entries_as_a_whole() {
-    let broken = Lexicon {
-        phones: BROKEN,
-        ..NO_WORDS
-    };
+    let broken = Lexicon { phones: BROKEN, ..NO_WORDS };
     let (mut good, mut bad) = (new_store(2), vec![7; 1024]);
     let text: &[u8] = b"a : k\nno colon\n# \x80";
     let run = |lexicon: &Lexicon<'_>, store: &mut [u8], spare: usize, refusal: Refusal| {
         let mut spare = vec![9; spare];
-        stays(store, refusal, |bytes| {
-            Store::over(bytes).add_entries(lexicon, &mut spare, text)
-        });
-        assert!(
-            spare.iter().all(|&byte| byte == 9),
-            "{refusal:?} altered the spare"
-        );
+        stays(store, refusal, |bytes| Store::over(bytes).add_entries(lexicon, &mut spare, text));
+        assert!(spare.iter().all(|&byte| byte == 9), "{refusal:?} altered the spare");
     };
     run(&broken, &mut bad, 512, Refusal::Section);
     run(&NO_WORDS, &mut bad, 1024, Refusal::Unsound);
@@ -286,9 +205,7 @@ fn add_entries_at_a_line() {
     let cells = cells(&["k"]);
     for word in ["a", "b"] {
         let phones = PhoneList::from_cells(&cells);
-        Store::over(&mut after)
-            .add_entry(&NO_WORDS, word, "", phones)
-            .expect("it is added");
+        Store::over(&mut after).add_entry(&NO_WORDS, word, "", phones).expect("it is added");
     }
     for (line, refusal) in faults {
         let (mut store, mut spare) = (new_store(3), vec![9; 3 * 512]);
@@ -313,26 +230,14 @@ struct Said<'a> {
 
 impl Said<'_> {
     fn onto(self, sheet: &mut [u8]) -> Result<(), Refused> {
-        Sheet::over(sheet).say_word(
-            &self.lexicon,
-            &self.letters,
-            self.store,
-            self.word,
-            self.tag,
-        )
+        Sheet::over(sheet).say_word(&self.lexicon, &self.letters, self.store, self.word, self.tag)
     }
 }
 
 /// The word cat on whole sections.
 fn cat<'a>(store: &'a Store<'a>) -> Said<'a> {
     let (lexicon, letters) = (example::LEXICON, example::LETTERS);
-    Said {
-        lexicon,
-        letters,
-        store,
-        word: b"cat",
-        tag: b"",
-    }
+    Said { lexicon, letters, store, word: b"cat", tag: b"" }
 }
 
 #[test]
@@ -340,36 +245,16 @@ fn say_word_with_bad_sections_stores_and_sheets() {
     let (mut good, mut bad) = (new_store(1), vec![7; 512]);
     let (good, bad) = (Store::over(&mut good), Store::over(&mut bad));
     let (mut sheet, mut rubbish) = (new_sheet(5), vec![7; 320]);
-    let long = Said {
-        store: &bad,
-        word: BAD_WORDS[0],
-        ..cat(&good)
-    };
+    let long = Said { store: &bad, word: BAD_WORDS[0], ..cat(&good) };
     for lexicon in broken_lexicons() {
-        stays(&mut rubbish, Refusal::Section, |bytes| {
-            Said { lexicon, ..long }.onto(bytes)
-        });
+        stays(&mut rubbish, Refusal::Section, |bytes| Said { lexicon, ..long }.onto(bytes));
     }
     for letters in broken_letters() {
-        stays(&mut rubbish, Refusal::Section, |bytes| {
-            Said { letters, ..long }.onto(bytes)
-        });
-        stays(&mut sheet, Refusal::Section, |bytes| {
-            Said {
-                letters,
-                ..cat(&good)
-            }
-            .onto(bytes)
-        });
+        stays(&mut rubbish, Refusal::Section, |bytes| Said { letters, ..long }.onto(bytes));
+        stays(&mut sheet, Refusal::Section, |bytes| Said { letters, ..cat(&good) }.onto(bytes));
     }
     stays(&mut sheet, Refusal::Unsound, |bytes| long.onto(bytes));
-    stays(&mut rubbish, Refusal::Unsound, |bytes| {
-        Said {
-            store: &good,
-            ..long
-        }
-        .onto(bytes)
-    });
+    stays(&mut rubbish, Refusal::Unsound, |bytes| Said { store: &good, ..long }.onto(bytes));
 }
 
 #[test]
@@ -378,39 +263,16 @@ fn say_word_with_bad_words_and_tables() {
     let store = Store::over(&mut slots);
     let cat = cat(&store);
     for word in BAD_WORDS {
-        stays(&mut sheet, Refusal::Text, |bytes| {
-            Said { word, ..cat }.onto(bytes)
-        });
-        stays(&mut sheet, Refusal::Text, |bytes| {
-            Said { tag: word, ..cat }.onto(bytes)
-        });
+        stays(&mut sheet, Refusal::Text, |bytes| Said { word, ..cat }.onto(bytes));
+        stays(&mut sheet, Refusal::Text, |bytes| Said { tag: word, ..cat }.onto(bytes));
     }
-    let cut_off = Lexicon {
-        data: b"",
-        ..cat.lexicon
-    };
-    stays(&mut sheet, Refusal::Damaged, |bytes| {
-        Said {
-            lexicon: cut_off,
-            ..cat
-        }
-        .onto(bytes)
-    });
-    let no_tables = Said {
-        lexicon: NO_WORDS,
-        letters: NO_TREES,
-        ..cat
-    };
+    let cut_off = Lexicon { data: b"", ..cat.lexicon };
+    stays(&mut sheet, Refusal::Damaged, |bytes| Said { lexicon: cut_off, ..cat }.onto(bytes));
+    let no_tables = Said { lexicon: NO_WORDS, letters: NO_TREES, ..cat };
     stays(&mut sheet, Refusal::Damaged, |bytes| no_tables.onto(bytes));
     let [phones, index, data] = &overlong();
-    let lexicon = Lexicon {
-        phones,
-        index,
-        data,
-    };
-    stays(&mut sheet, Refusal::Phones, |bytes| {
-        Said { lexicon, ..cat }.onto(bytes)
-    });
+    let lexicon = Lexicon { phones, index, data };
+    stays(&mut sheet, Refusal::Phones, |bytes| Said { lexicon, ..cat }.onto(bytes));
     stays(&mut sheet, Refusal::Short, |bytes| cat.onto(bytes));
 }
 
@@ -418,16 +280,10 @@ fn say_word_with_bad_words_and_tables() {
 fn phone_string() {
     let (mut slots, mut items, mut out) = (new_store(1), new_sheet(9), [9; 6]);
     let mut rubbish = vec![7; 64];
-    stays(&mut out, Refusal::Unsound, |out| {
-        Sheet::over(&mut rubbish).phone_string(out).map(drop)
-    });
+    stays(&mut out, Refusal::Unsound, |out| Sheet::over(&mut rubbish).phone_string(out).map(drop));
     let (store, mut sheet) = (Store::over(&mut slots), Sheet::over(&mut items));
-    sheet
-        .say_word(&example::LEXICON, &example::LETTERS, &store, "cat", "")
-        .expect("it is said");
-    stays(&mut out[..5], Refusal::Short, |out| {
-        sheet.phone_string(out).map(drop)
-    });
+    sheet.say_word(&example::LEXICON, &example::LETTERS, &store, "cat", "").expect("it is said");
+    stays(&mut out[..5], Refusal::Short, |out| sheet.phone_string(out).map(drop));
     assert_eq!(sheet.phone_string(&mut out), Ok("k ae t"));
 }
 
@@ -448,15 +304,8 @@ fn each_message_says_cause_and_cure() {
     for (place, refusal) in all.into_iter().enumerate() {
         assert_eq!(refusal.number() as usize, place + 1);
         let message = refused(refusal).to_string();
-        let wanted = [
-            refusal.cause(),
-            &format!("(refusal {})", place + 1),
-            refusal.cure(),
-        ];
-        assert!(
-            wanted.iter().all(|part| message.contains(part)),
-            "{message}"
-        );
+        let wanted = [refusal.cause(), &format!("(refusal {})", place + 1), refusal.cure()];
+        assert!(wanted.iter().all(|part| message.contains(part)), "{message}");
         assert!(!message.contains("line 0"), "{message}");
     }
 }

@@ -26,10 +26,7 @@ fn marks() {
         let told = list.syllabify(&mut marks).expect("it is accepted");
         let digits: String = told.iter().map(|mark| char::from(b'0' + mark)).collect();
         assert_eq!(digits, wanted, "{phones}");
-        assert!(
-            marks[wanted.len()..].iter().all(|&byte| byte == 9),
-            "the marks' rest stays"
-        );
+        assert!(marks[wanted.len()..].iter().all(|&byte| byte == 9), "the marks' rest stays");
     }
 }
 
@@ -51,9 +48,7 @@ fn found(
     tag: &str,
 ) -> Option<(Source, String)> {
     let mut out = [0; LIST_BYTES];
-    let found = lexicon
-        .lookup(store, word, tag, &mut out)
-        .expect("it is accepted");
+    let found = lexicon.lookup(store, word, tag, &mut out).expect("it is accepted");
     found.map(|Found { source, phones }| (source, phones.to_string()))
 }
 
@@ -77,31 +72,20 @@ fn lead_and_lead() {
         store
             .add_entry(&NO_WORDS, "lead", tag, PhoneList::from_cells(&cells))
             .expect("it is added");
-        found(&NO_WORDS, &store, "lead", "")
-            .expect("it was added")
-            .1
+        found(&NO_WORDS, &store, "lead", "").expect("it was added").1
     };
     assert_eq!(add("v", &["l", "iy", "d"]), "l iy d");
     assert_eq!(add("n", &["l", "eh", "d"]), "l iy d");
     assert_eq!(add("v", &["l", "iy", "d"]), "l eh d");
-    assert_eq!(
-        found(&NO_WORDS, &store, "LEAD", "verb"),
-        Some((Source::Runtime, "l iy d".into()))
-    );
+    assert_eq!(found(&NO_WORDS, &store, "LEAD", "verb"), Some((Source::Runtime, "l iy d".into())));
 }
 
 #[test]
 fn words_without_letters() {
     let mut out = [9; 16];
     for word in ["", "a#"] {
-        assert!(NO_TREES
-            .predict(word, &mut out)
-            .expect("it is accepted")
-            .is_empty());
-        assert!(example::LETTERS
-            .predict(word, &mut out)
-            .expect("it is accepted")
-            .is_empty());
+        assert!(NO_TREES.predict(word, &mut out).expect("it is accepted").is_empty());
+        assert!(example::LETTERS.predict(word, &mut out).expect("it is accepted").is_empty());
     }
     assert_eq!(out, [9; 16]);
 }
@@ -113,19 +97,13 @@ fn words_of_47_and_48_bytes() {
     let mut store = Store::new_store(&mut slots).expect("a store");
     let none = PhoneList::from_cells(b"");
     assert_eq!(store.add_entry(&NO_WORDS, &long, &long, none), Ok(()));
-    assert_eq!(
-        found(&NO_WORDS, &store, &long, ""),
-        Some((Source::Runtime, String::new()))
-    );
+    assert_eq!(found(&NO_WORDS, &store, &long, ""), Some((Source::Runtime, String::new())));
     for (word, tag) in [(&longer, &long), (&long, &longer)] {
         let refused = store.add_entry(&NO_WORDS, word, tag, none).unwrap_err();
         assert_eq!(refused.refusal, Refusal::Text);
     }
     assert!(example::SAYABLE.is_sayable(&long).is_ok());
-    assert_eq!(
-        example::SAYABLE.is_sayable(&longer).unwrap_err().refusal,
-        Refusal::Text
-    );
+    assert_eq!(example::SAYABLE.is_sayable(&longer).unwrap_err().refusal, Refusal::Text);
 }
 
 #[test]
@@ -133,10 +111,7 @@ fn entries_of_24_and_25_phones() {
     let mut slots = [0; 1024];
     let mut store = Store::new_store(&mut slots).expect("a store");
     let (long, longer) = (cells(&["k"; 24]), cells(&["k"; 25]));
-    assert_eq!(
-        store.add_entry(&NO_WORDS, "a", "", PhoneList::from_cells(&long)),
-        Ok(())
-    );
+    assert_eq!(store.add_entry(&NO_WORDS, "a", "", PhoneList::from_cells(&long)), Ok(()));
     let refused = store.add_entry(&NO_WORDS, "a", "", PhoneList::from_cells(&longer));
     assert_eq!(refused.unwrap_err().refusal, Refusal::Phones);
 }
@@ -145,26 +120,18 @@ fn entries_of_24_and_25_phones() {
 fn lists_of_96_and_97_phones() {
     let mut marks = [0; 97];
     let (long, longer) = (cells(&["k"; 96]), cells(&["k"; 97]));
-    let told = PhoneList::from_cells(&long)
-        .syllabify(&mut marks)
-        .expect("it is accepted");
+    let told = PhoneList::from_cells(&long).syllabify(&mut marks).expect("it is accepted");
     assert_eq!(told.len(), 96);
     let refused = PhoneList::from_cells(&longer).syllabify(&mut marks);
     assert_eq!(refused.unwrap_err().refusal, Refusal::Phones);
 
     let phones = phone_table(&["k"]);
     let (index, data) = entries(&[("long", b'0', &[0; 96]), ("longer", b'0', &[0; 97])]);
-    let lexicon = Lexicon {
-        phones: &phones,
-        index: &index,
-        data: &data,
-    };
+    let lexicon = Lexicon { phones: &phones, index: &index, data: &data };
     assert_eq!(lexicon.check_lexicon(), Ok(true));
     let (mut slots, mut out) = ([0; 512], [0; LIST_BYTES]);
     let store = Store::new_store(&mut slots).expect("a store");
-    let found = lexicon
-        .lookup(&store, "long", "", &mut out)
-        .expect("it is accepted");
+    let found = lexicon.lookup(&store, "long", "", &mut out).expect("it is accepted");
     assert_eq!(found.expect("it is there").phones.len(), 96);
     let refused = lexicon.lookup(&store, "longer", "", &mut out).unwrap_err();
     assert_eq!(refused.refusal, Refusal::Phones);
@@ -176,9 +143,7 @@ fn nil_is_a_tag_of_its_own_in_lookup() {
     let mut store = Store::new_store(&mut slots).expect("a store");
     let cells = cells(&["k"]);
     let phones = PhoneList::from_cells(&cells);
-    store
-        .add_entry(&NO_WORDS, "a", "v", phones)
-        .expect("it is added");
+    store.add_entry(&NO_WORDS, "a", "v", phones).expect("it is added");
     assert!(found(&NO_WORDS, &store, "a", "").is_some());
     assert!(found(&NO_WORDS, &store, "a", "nil").is_none());
     store
@@ -194,19 +159,13 @@ fn machine(start: usize, consonant: u8) -> Vec<u8> {
     cells[start] = to_start(b'V');
     cells[start + 1] = to_start(consonant);
     let skipped = [0; 4];
-    skipped
-        .into_iter()
-        .chain(cells.into_iter().flat_map(u16::to_le_bytes))
-        .collect()
+    skipped.into_iter().chain(cells.into_iter().flat_map(u16::to_le_bytes)).collect()
 }
 
 #[test]
 fn forwards_in_the_prefix_and_backwards_in_the_suffix() {
     let (prefix, suffix) = (machine(2, b'k'), machine(2, b's'));
-    let sayable = Sayable {
-        prefix: &prefix,
-        suffix: &suffix,
-    };
+    let sayable = Sayable { prefix: &prefix, suffix: &suffix };
     assert_eq!(sayable.is_sayable("Kits"), Ok(false));
     assert_eq!(sayable.is_sayable("Kis"), Ok(true));
     assert_eq!(sayable.is_sayable("Sik"), Ok(false));
@@ -215,13 +174,7 @@ fn forwards_in_the_prefix_and_backwards_in_the_suffix() {
 #[test]
 fn both_tables_start_at_the_prefixs_hash() {
     let prefix = machine(2, b'k');
-    let sayable = |suffix: &[u8]| {
-        Sayable {
-            prefix: &prefix,
-            suffix,
-        }
-        .is_sayable("a")
-    };
+    let sayable = |suffix: &[u8]| Sayable { prefix: &prefix, suffix }.is_sayable("a");
     assert_eq!(sayable(&machine(2, b'k')), Ok(true));
     assert_eq!(sayable(&machine(3, b'k')), Ok(false));
 }

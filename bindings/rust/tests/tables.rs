@@ -68,10 +68,7 @@ fn a_missing_section_is_named() {
         assert!(error.to_string().starts_with(&told), "{error}");
     }
     let nowhere = Tables::read("there is no such folder").unwrap_err();
-    assert_eq!(
-        nowhere.path(),
-        Path::new("there is no such folder/lex.phones")
-    );
+    assert_eq!(nowhere.path(), Path::new("there is no such folder/lex.phones"));
 }
 
 #[test]
@@ -86,10 +83,7 @@ fn what_is_there_and_cannot_be_read_is_told() {
         let reason = source.downcast_ref::<io::Error>().expect("of this kind");
         assert_eq!(reason.kind(), io::ErrorKind::IsADirectory);
         assert!(read_section(&folder, name).is_err());
-        assert_eq!(
-            read_section(&folder, "lex.index").ok(),
-            Some(b"lex.index".to_vec())
-        );
+        assert_eq!(read_section(&folder, "lex.index").ok(), Some(b"lex.index".to_vec()));
     }
 }
 

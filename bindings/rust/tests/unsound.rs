@@ -31,10 +31,7 @@ fn two_words() -> (Vec<u8>, usize) {
             .expect("it is said");
     }
     assert_eq!(reading(&sheet), "lead[l iy d 1] gobo[g ow 1][b ow 1]");
-    assert_eq!(
-        format!("{sheet:?}"),
-        "[lead[l iy d 1], gobo[g ow 1, b ow 1]]"
-    );
+    assert_eq!(format!("{sheet:?}"), "[lead[l iy d 1], gobo[g ow 1, b ow 1]]");
     (items, 12)
 }
 
@@ -61,11 +58,9 @@ fn iterators_have_names_and_tell_what_is_to_come() {
 #[test]
 fn a_stress_that_is_none() {
     let (mut items, _) = two_words();
-    for (byte, stress) in [
-        (b'0', Stress::Unstressed),
-        (b'1', Stress::Stressed),
-        (b'2', Stress::Unstressed),
-    ] {
+    for (byte, stress) in
+        [(b'0', Stress::Unstressed), (b'1', Stress::Stressed), (b'2', Stress::Unstressed)]
+    {
         items[2 * 64 + 1] = byte;
         let sheet = Sheet::over(&mut items);
         let first = sheet.words().flat_map(|word| word.syllables()).next();
@@ -94,19 +89,14 @@ fn every_length() {
     }
     for fill in [0, 1, 2, 3, 0xff] {
         for length in [0, 1, 63, 64, 128, 65_535, 65_536, 65_600, 200_000] {
-            assert!(
-                met(&mut vec![fill; length]) < 1024,
-                "{length} bytes of {fill}"
-            );
+            assert!(met(&mut vec![fill; length]) < 1024, "{length} bytes of {fill}");
         }
     }
 }
 
 /// A number from 0 to 1,023 that looks like chance.
 fn chance(state: &mut u64) -> u16 {
-    *state = state
-        .wrapping_mul(6_364_136_223_846_793_005)
-        .wrapping_add(1_442_695_040_888_963_407);
+    *state = state.wrapping_mul(6_364_136_223_846_793_005).wrapping_add(1_442_695_040_888_963_407);
     (*state >> 54) as u16
 }
 
@@ -140,27 +130,16 @@ fn circles() {
     link(&mut items, 4, 2, 3);
     link(&mut items, 4, 12, 3);
     link(&mut items, 10, 4, 8);
-    assert_eq!(
-        reading(&Sheet::over(&mut items)),
-        "lead[l iy 1] gobo[g ow 1][ 1]"
-    );
-    assert_eq!(
-        Sheet::over(&mut items).phones().collect::<Vec<_>>(),
-        ["l", "iy"]
-    );
-    let refused = Sheet::over(&mut items)
-        .phone_string(&mut [0; 99])
-        .unwrap_err();
+    assert_eq!(reading(&Sheet::over(&mut items)), "lead[l iy 1] gobo[g ow 1][ 1]");
+    assert_eq!(Sheet::over(&mut items).phones().collect::<Vec<_>>(), ["l", "iy"]);
+    let refused = Sheet::over(&mut items).phone_string(&mut [0; 99]).unwrap_err();
     assert_eq!(refused.refusal, Refusal::Unsound);
 }
 
 #[test]
 fn cells_of_any_bytes() {
     let mut cells = [0xff; 40];
-    assert_eq!(
-        PhoneList::from_cells(&cells).iter().collect::<Vec<_>>(),
-        ["", ""]
-    );
+    assert_eq!(PhoneList::from_cells(&cells).iter().collect::<Vec<_>>(), ["", ""]);
     cells[1..3].copy_from_slice(b"ae");
     cells[16] = 200;
     cells[17..32].fill(b'k');

@@ -31,13 +31,7 @@ fn every_changed_bit_is_told() {
     let mut reports = ran.out.split("\n\n");
     for (folder, name) in folders {
         let report = reports.next().expect("each folder has a report");
-        assert!(
-            report.starts_with(&format!("{folder}: not fit for the show: ")),
-            "{report}"
-        );
-        assert!(
-            report.contains(&format!("\n{name}: its checksum is ")),
-            "{report}"
-        );
+        assert!(report.starts_with(&format!("{folder}: not fit for the show: ")), "{report}");
+        assert!(report.contains(&format!("\n{name}: its checksum is ")), "{report}");
     }
 }

@@ -36,10 +36,7 @@ fn a_section_that_does_not_match_is_not_fit() {
     );
     assert_eq!(ran.line("lts.index: its c"), expected);
     let reason = "a section is not the one that its checksum was taken of";
-    assert_eq!(
-        ran.line("folder: "),
-        format!("folder: not fit for the show: {reason}")
-    );
+    assert_eq!(ran.line("folder: "), format!("folder: not fit for the show: {reason}"));
     assert_eq!(ran.status, Some(1));
 }
 
@@ -47,32 +44,19 @@ fn a_section_that_does_not_match_is_not_fit() {
 fn a_damaged_file_of_checksums_is_not_fit() {
     let damaged =
         "is damaged: expected 8 hexadecimal digits, a blank and the name of another section";
-    for (from, to) in [
-        ("lts.model", "lts.modem"),
-        (SUMS[0], "+123456"),
-        (" aswd", "aswd"),
-    ] {
+    for (from, to) in [("lts.model", "lts.modem"), (SUMS[0], "+123456"), (" aswd", "aswd")] {
         let ran = run(&text().replace(from, to));
-        assert!(
-            ran.line("checksums: line ").ends_with(damaged),
-            "{}",
-            ran.out
-        );
+        assert!(ran.line("checksums: line ").ends_with(damaged), "{}", ran.out);
         assert_eq!(ran.status, Some(1));
     }
     let ran = run(&(text() + "\n"));
-    assert_eq!(
-        ran.line("checksums: line "),
-        format!("checksums: line 9 {damaged}")
-    );
+    assert_eq!(ran.line("checksums: line "), format!("checksums: line 9 {damaged}"));
 }
 
 #[test]
 fn each_section_has_one_line() {
     let ran = run(&text().replace("aswd.s", "aswd.p"));
-    assert!(ran
-        .line("checksums: line 8 is damaged")
-        .ends_with("the name of another section"));
+    assert!(ran.line("checksums: line 8 is damaged").ends_with("the name of another section"));
     assert_eq!(ran.status, Some(1));
     let whole = text();
     let seven = &whole[..whole.len() - "2144df1c aswd.s\n".len()];
@@ -92,10 +76,7 @@ fn a_missing_section_is_told_once() {
     scratch.remove("folder", "aswd.p");
     let ran = scratch.run(["folder"]);
     assert_eq!(ran.out.matches("aswd.p").count(), 1, "{}", ran.out);
-    assert_eq!(
-        ran.line("checksums"),
-        "checksums: every section that could be read matches"
-    );
+    assert_eq!(ran.line("checksums"), "checksums: every section that could be read matches");
     assert_eq!(ran.status, Some(1));
 }
 

@@ -17,21 +17,13 @@ fn changed(name: &'static str, at: usize, change: impl Fn(u8) -> u8) -> Damage {
 /// Each section cut off: to nothing, in its first bytes, at its half.
 fn cut() -> Vec<Damage> {
     let lengths = |name| [0, 1, 3, english_section(name).len() / 2];
-    let all = NAMES
-        .into_iter()
-        .flat_map(|name| lengths(name).map(|length| (name, length)));
-    all.map(|(name, length)| (name, english_section(name)[..length].to_vec()))
-        .collect()
+    let all = NAMES.into_iter().flat_map(|name| lengths(name).map(|length| (name, length)));
+    all.map(|(name, length)| (name, english_section(name)[..length].to_vec())).collect()
 }
 
 /// The last byte is missing; of a machine it belongs to a cell of 0, without which it ends as well.
 fn cut_by_one() -> Vec<Damage> {
-    let cut = |name| {
-        (
-            name,
-            english_section(name)[..english_section(name).len() - 1].to_vec(),
-        )
-    };
+    let cut = |name| (name, english_section(name)[..english_section(name).len() - 1].to_vec());
     NAMES[..6].iter().copied().map(cut).collect()
 }
 
@@ -76,10 +68,7 @@ fn entry_bytes(entry: usize) -> [usize; 3] {
 /// Some nodes of a kind.
 fn nodes(is_wanted: impl Fn(u8) -> bool) -> Vec<usize> {
     let model = english_section("lts.model");
-    let nodes = model
-        .chunks(6)
-        .enumerate()
-        .filter(|(_, node)| is_wanted(node[0]));
+    let nodes = model.chunks(6).enumerate().filter(|(_, node)| is_wanted(node[0]));
     let all: Vec<usize> = nodes.map(|(number, _)| number).collect();
     all.iter().copied().step_by(all.len() / 8).collect()
 }
@@ -97,31 +86,15 @@ fn noise(seed: u32, length: usize) -> Vec<u8> {
 #[test]
 fn each_damaged_folder_is_told() {
     let noisy = NAMES.map(|name| (name, noise(7, 66)));
-    let all = [
-        cut(),
-        cut_by_one(),
-        changed_tables(),
-        changed_contents(),
-        noisy.to_vec(),
-    ]
-    .concat();
+    let all = [cut(), cut_by_one(), changed_tables(), changed_contents(), noisy.to_vec()].concat();
     assert!(all.len() >= 80, "{}", all.len());
     for (name, bytes) in all {
         let scratch = Scratch::new();
         scratch.english("folder");
         scratch.write("folder", name, &bytes);
         let ran = scratch.run(["folder"]);
-        assert_eq!(
-            (ran.err.as_str(), ran.status),
-            ("", Some(1)),
-            "{name}, {} bytes",
-            bytes.len()
-        );
-        assert!(
-            ran.out.starts_with("folder: not fit for the show: "),
-            "{}",
-            ran.out
-        );
+        assert_eq!((ran.err.as_str(), ran.status), ("", Some(1)), "{name}, {} bytes", bytes.len());
+        assert!(ran.out.starts_with("folder: not fit for the show: "), "{}", ran.out);
     }
 }
 
@@ -145,12 +118,7 @@ fn a_file_in_place_of_the_folder_is_told() {
     let scratch = Scratch::new();
     fs::write(scratch.path("file"), "").expect("a file can be written");
     let ran = scratch.run(["file"]);
-    assert_eq!(
-        ran.out.matches(": cannot be read: Not a directory").count(),
-        9,
-        "{}",
-        ran.out
-    );
+    assert_eq!(ran.out.matches(": cannot be read: Not a directory").count(), 9, "{}", ran.out);
     assert_eq!(ran.status, Some(1));
 }
 
@@ -169,14 +137,7 @@ fn the_library_and_the_search_never_disagree() {
         scratch.write(folder, name, &bytes);
     }
     let ran = scratch.run(&folders);
-    assert_eq!(
-        ran.out
-            .matches("check_tables and the library disagree")
-            .count(),
-        0,
-        "{}",
-        ran.out
-    );
+    assert_eq!(ran.out.matches("check_tables and the library disagree").count(), 0, "{}", ran.out);
     assert_eq!(ran.out.matches("fit for the show").count(), 400);
     assert!(ran.out.matches("not fit for the show").count() >= 100);
     assert_eq!((ran.err.as_str(), ran.status), ("", Some(1)));

@@ -13,11 +13,7 @@ fn fault(section: &str, bytes: &[u8], front: &str) -> String {
 
 #[test]
 fn an_offset_outside_lex_data_is_a_fault_of_lex_index() {
-    let told = fault(
-        "lex.index",
-        b"\x02\0\0\0\0\0\0\0\x11\x11\0\x08",
-        "lex.index, ",
-    );
+    let told = fault("lex.index", b"\x02\0\0\0\0\0\0\0\x11\x11\0\x08", "lex.index, ");
     let expected =
         "lex.index, byte 8: entry 1 starts at byte 134222097 of lex.data: expected byte 7, \
                     where the entry before it ends";
@@ -26,11 +22,7 @@ fn an_offset_outside_lex_data_is_a_fault_of_lex_index() {
 
 #[test]
 fn an_offset_behind_the_last_entry_is_one_too() {
-    let told = fault(
-        "lex.index",
-        b"\x03\0\0\0\0\0\0\0\x07\0\0\0\x0e\0\0\0",
-        "lex.index, ",
-    );
+    let told = fault("lex.index", b"\x03\0\0\0\0\0\0\0\x07\0\0\0\x0e\0\0\0", "lex.index, ");
     let expected = "lex.index, byte 12: entry 2 starts at byte 14 of lex.data: expected a place inside its 14 bytes";
     assert_eq!(told, expected);
 }
@@ -40,11 +32,7 @@ fn an_offset_into_the_middle_of_an_entry_is_one_too() {
     let told = fault("lex.index", b"\x02\0\0\0\0\0\0\0\x08\0\0\0", "lex.index, ");
     let expected = "lex.index, byte 8: entry 1 starts at byte 8 of lex.data: expected byte 7, where the entry before it ends";
     assert_eq!(told, expected);
-    let told = fault(
-        "lex.index",
-        b"\x02\0\0\0\x01\0\0\0\x07\0\0\0",
-        "lex.index, ",
-    );
+    let told = fault("lex.index", b"\x02\0\0\0\x01\0\0\0\x07\0\0\0", "lex.index, ");
     let expected = "lex.index, byte 4: entry 0 starts at byte 1 of lex.data: expected byte 0, where lex.data begins";
     assert_eq!(told, expected);
 }
@@ -88,10 +76,7 @@ fn a_question_that_never_matches_has_one_side_only() {
     let scratch = Scratch::new();
     scratch.small_with("folder", "lts.model", THREE);
     let ran = scratch.run(["folder"]);
-    assert_eq!(
-        ran.line("  deepest tree"),
-        "  deepest tree: 3 nodes, of \"a\""
-    );
+    assert_eq!(ran.line("  deepest tree"), "  deepest tree: 3 nodes, of \"a\"");
     assert_eq!(ran.status, Some(0));
 }
 

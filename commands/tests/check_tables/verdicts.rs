@@ -46,31 +46,14 @@ fn check_broken(section: &str, bytes: &[u8], reason: &str, parts: &[&str]) {
 fn check_lex_phones(bytes: &[u8], line: &str) {
     let held = "\nlex.index: its form holds, 2 entries\nlex.data: its form holds, 14 bytes\n";
     let counted = "  2 entries, 2 nodes\n";
-    let parts = [
-        counted,
-        DEEPEST,
-        LTS_UNUSED,
-        line,
-        held,
-        LETTERS,
-        MACHINES,
-        NO_CHECKSUMS,
-    ];
+    let parts = [counted, DEEPEST, LTS_UNUSED, line, held, LETTERS, MACHINES, NO_CHECKSUMS];
     check_broken("lex.phones", bytes, FORM, &parts);
 }
 
 /// A break in lts.phones.
 fn check_lts_phones(bytes: &[u8], line: &str) {
     let held = "\nlts.index: its form holds, 26 letters\nlts.model: its form holds, 2 nodes\n";
-    let parts = [
-        COUNTED,
-        LEX_UNUSED,
-        LEXICON,
-        line,
-        held,
-        MACHINES,
-        NO_CHECKSUMS,
-    ];
+    let parts = [COUNTED, LEX_UNUSED, LEXICON, line, held, MACHINES, NO_CHECKSUMS];
     check_broken("lts.phones", bytes, FORM, &parts);
 }
 
@@ -82,15 +65,7 @@ fn check_entries(bytes: &[u8], line: &str) {
         bytes.len()
     );
     let counted = "  2 entries, 2 nodes\n";
-    let parts = [
-        counted,
-        DEEPEST,
-        LTS_UNUSED,
-        &held,
-        LETTERS,
-        MACHINES,
-        NO_CHECKSUMS,
-    ];
+    let parts = [counted, DEEPEST, LTS_UNUSED, &held, LETTERS, MACHINES, NO_CHECKSUMS];
     check_broken("lex.data", bytes, DAMAGED, &parts);
 }
 
@@ -98,16 +73,7 @@ fn check_entries(bytes: &[u8], line: &str) {
 fn check_trees(bytes: &[u8], line: &str) {
     let held = "lts.phones: its form holds, 2 phones\nlts.index: its form holds, 26 letters\n\
                 lts.model: its form holds, 2 nodes\n";
-    let parts = [
-        COUNTED,
-        LEX_UNUSED,
-        LEXICON,
-        held,
-        line,
-        "\n",
-        MACHINES,
-        NO_CHECKSUMS,
-    ];
+    let parts = [COUNTED, LEX_UNUSED, LEXICON, held, line, "\n", MACHINES, NO_CHECKSUMS];
     check_broken("lts.model", bytes, TREE, &parts);
 }
 
@@ -225,15 +191,7 @@ fn an_index_of_entries_breaks_at_its_end() {
     let lines = "lex.phones: its form holds, 2 phones\n\
                  lex.index, byte 8: breaks its form: expected 4 bytes that count the entries, and 4 for each of them\n\
                  lex.data: its form holds, 14 bytes\n";
-    let parts = [
-        "  2 nodes\n",
-        DEEPEST,
-        LTS_UNUSED,
-        lines,
-        LETTERS,
-        MACHINES,
-        NO_CHECKSUMS,
-    ];
+    let parts = ["  2 nodes\n", DEEPEST, LTS_UNUSED, lines, LETTERS, MACHINES, NO_CHECKSUMS];
     check_broken("lex.index", b"\x02\0\0\0\0\0\0\0", FORM, &parts);
 }
 
@@ -307,15 +265,6 @@ fn a_node_outside_is_told() {
 fn a_machine_without_its_front_breaks_its_form() {
     let lines = "aswd.p: its form holds, 0 cells\n\
                  aswd.s, byte 3: breaks its form: expected 4 bytes in front of the cells\n";
-    let parts = [
-        COUNTED,
-        DEEPEST,
-        LEX_UNUSED,
-        LTS_UNUSED,
-        LEXICON,
-        LETTERS,
-        lines,
-        NO_CHECKSUMS,
-    ];
+    let parts = [COUNTED, DEEPEST, LEX_UNUSED, LTS_UNUSED, LEXICON, LETTERS, lines, NO_CHECKSUMS];
     check_broken("aswd.s", &[0; 3], FORM, &parts);
 }

@@ -7,10 +7,7 @@ fn an_unknown_phone_of_an_entry_is_told_with_its_words() {
     let scratch = Scratch::new();
     scratch.small_with("folder", "lex.phones", b"\x02\0\0\0\x02ag\x01t");
     let ran = scratch.run(["folder"]);
-    assert_eq!(
-        ran.line("folder: "),
-        "folder: fit for the show, with 1 warning"
-    );
+    assert_eq!(ran.line("folder: "), "folder: fit for the show, with 1 warning");
     let expected =
         "warning: lex.phones, byte 5: phone 0, \"ag\", is none of the 50; used by at, et";
     assert_eq!(ran.line("warning: "), expected);
@@ -43,10 +40,7 @@ fn a_phone_is_one_of_the_50_after_its_stress_digit() {
     assert_eq!(ran.line("known: "), "known: fit for the show");
     scratch.small_with("unknown", "lts.phones", b"\x02\0\0\0\x03ae2\x04ae11");
     let ran = scratch.run(["unknown"]);
-    assert_eq!(
-        ran.line("unknown: "),
-        "unknown: fit for the show, with 2 warnings"
-    );
+    assert_eq!(ran.line("unknown: "), "unknown: fit for the show, with 2 warnings");
     let expected =
         "warning: lts.phones, byte 5: phone 0, \"ae2\", is none of the 50; used by node 1 of \"a\"";
     assert_eq!(ran.line("warning: lts.phones, byte 5"), expected);
@@ -62,10 +56,7 @@ fn each_half_of_a_pair_is_a_phone_and_epsilon_is_none() {
     let ran = scratch.run(["folder"]);
     let expected = "warning: lts.phones, byte 5: \"sss\" in phone 0, \"k-sss\", is none of the 50; used by node 1 of \"a\"";
     assert_eq!(ran.line("warning: "), expected);
-    assert_eq!(
-        ran.line("folder: "),
-        "folder: fit for the show, with 1 warning"
-    );
+    assert_eq!(ran.line("folder: "), "folder: fit for the show, with 1 warning");
     scratch.small_with("lexicon", "lex.phones", b"\x02\0\0\0\x03k-s\x07epsilon");
     assert_eq!(
         scratch.run(["lexicon"]).line("lexicon: f"),

@@ -18,11 +18,7 @@ pub struct Ended {
 
 /// What is expected of a run.
 pub fn ended(status: i32, out: &str, err: &str) -> Ended {
-    Ended {
-        status: Some(status),
-        out: out.into(),
-        err: err.into(),
-    }
+    Ended { status: Some(status), out: out.into(), err: err.into() }
 }
 
 /// A program that is to be run in the package's folder, without the user's own settings.
@@ -53,11 +49,7 @@ pub fn run_command(mut command: Command, input: impl AsRef<[u8]>) -> Ended {
         told.map(|mut pipe| pipe.write_all(&input))
     });
     let output = child.wait_with_output().expect("the program ends");
-    writer
-        .join()
-        .expect("the input was written")
-        .transpose()
-        .ok();
+    writer.join().expect("the input was written").transpose().ok();
     Ended {
         status: output.status.code(),
         out: String::from_utf8_lossy(&output.stdout).into(),

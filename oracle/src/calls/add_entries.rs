@@ -23,9 +23,7 @@ pub struct Input {
 impl Shrink for Input {
     fn smaller(&self) -> Vec<Input> {
         let fits = self.spare.len() == self.scene.store.len();
-        let texts = with(self, lines::shorter(&self.text), |input, text| {
-            input.text = text
-        });
+        let texts = with(self, lines::shorter(&self.text), |input, text| input.text = text);
         let scenes = with(self, self.scene.smaller(), |input, scene| {
             if fits {
                 input.spare.resize(scene.store.len(), 0);
@@ -53,12 +51,8 @@ impl Call for AddEntries {
     const REFUSALS: &'static [u32] = &[1, 2, 3, 4, 5, 7, 8];
     /// A malformed line, an unknown phone.
     const ERRORS: &'static [u32] = &[4, 5];
-    const MET: Table = &[
-        rule::ROWS,
-        &[&["spare of another length", "7: 25 phones"]],
-        &[STORE_ORDER],
-        UNSOUND,
-    ];
+    const MET: Table =
+        &[rule::ROWS, &[&["spare of another length", "7: 25 phones"]], &[STORE_ORDER], UNSOUND];
     const LIBRARY: Function = ours::add_entries;
 
     fn short(&self) -> Vec<Input> {
@@ -67,11 +61,7 @@ impl Call for AddEntries {
 
     fn random(&mut self, random: &mut Random) -> Input {
         let Pool { scene, words } = self.pool.next(|| begin(random, &self.phones));
-        let texts = Texts {
-            scene,
-            words,
-            phones: &self.phones,
-        };
+        let texts = Texts { scene, words, phones: &self.phones };
         let mut input = Input {
             text: texts.text(random, 16),
             spare: random.bytes(scene.store.len()),

@@ -177,10 +177,7 @@ fn short_word(random: &mut Random) -> Vec<u8> {
 
 /// Makes some adds refusable: one in three of them.
 pub fn spoil(random: &mut Random, given: &mut Add, phones: &Phones) {
-    let Add {
-        wanted,
-        phones: list,
-    } = given;
+    let Add { wanted, phones: list } = given;
     if random.once_in(6) {
         list.spoil_padding(random);
     }

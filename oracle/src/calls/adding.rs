@@ -3,10 +3,8 @@
 use crate::prelude::*;
 
 /// What a store has that both adds count.
-pub const STORE_ORDER: Rows = &[
-    "store in another order than its slots",
-    "anything in unused slots",
-];
+pub const STORE_ORDER: Rows =
+    &["store in another order than its slots", "anything in unused slots"];
 
 /// A store beside its phone table, and words to add.
 pub struct Pool {
@@ -20,10 +18,7 @@ impl Pool {
         let lexicon = Rc::new(lexicon_shapes::of_phones(random, phones));
         let alphabet = alphabet.map_or_else(|| words::alphabet(random), <[u8]>::to_vec);
         let words = (0..random.between(1, 12)).map(|_| words::accepted(random, &alphabet));
-        Pool {
-            words: words.collect(),
-            scene: Rc::new(Scene::new(&lexicon, stores::new(1, 0))),
-        }
+        Pool { words: words.collect(), scene: Rc::new(Scene::new(&lexicon, stores::new(1, 0))) }
     }
 
     /// The same with a store that was grown before.
@@ -41,10 +36,7 @@ impl Pool {
     }
 
     pub fn with_store(self, store: Vec<u8>) -> Pool {
-        Pool {
-            scene: self.scene.with_store(store),
-            ..self
-        }
+        Pool { scene: self.scene.with_store(store), ..self }
     }
 }
 
@@ -77,10 +69,8 @@ pub fn record<C: Call>(
     mut made: impl FnMut(&Rc<Scene>) -> C::Input,
 ) -> Vec<String> {
     let table = &scene.lexicon.sections.phones;
-    let mut lines = vec![
-        register(0, Form::PhoneTable, table),
-        register(1, Form::Store, &scene.store),
-    ];
+    let mut lines =
+        vec![register(0, Form::PhoneTable, table), register(1, Form::Store, &scene.store)];
     let mut at = 1;
     for _ in 0..cases {
         let (case, expected) = case(call, &made(&scene), &named([0, at]));

@@ -103,17 +103,11 @@ fn edges() -> Vec<Machines> {
         // lists that the end of the section ends
         (section(&head, &both[..5]), section(&head, &both[..3])),
         // aswd.s has another start of its own
-        (
-            good.clone(),
-            section(&head, &[cell(b'#', 1), cell(b'V', 0), 0, cell(b'V', 0)]),
-        ),
+        (good.clone(), section(&head, &[cell(b'#', 1), cell(b'V', 0), 0, cell(b'V', 0)])),
         // symbols 0 and 127, and letters that folding or the symbols leave without a use
         (
             section(&head, &b"#\0\x7fAaV".map(|symbol| cell(symbol, 1))),
-            section(
-                &head,
-                &[&[0], &b"\0\x7fAnV".map(|symbol| cell(symbol, 1))[..]].concat(),
-            ),
+            section(&head, &[&[0], &b"\0\x7fAnV".map(|symbol| cell(symbol, 1))[..]].concat()),
         ),
     ];
     pairs.map(|(p, s)| Machines::new([p, s], vec![])).into()

@@ -69,11 +69,7 @@ pub struct Input {
 impl Input {
     /// The sections that a call is lent; broken ones only where it takes what is broken.
     fn lent(&self, step: &Step) -> &Sections {
-        let Sections {
-            lexicon,
-            table,
-            trees,
-        } = &*self.broken;
+        let Sections { lexicon, table, trees } = &*self.broken;
         let refused = match step.act {
             Act::SayWord(_) => !lexicon.has_form() || trees.names.is_none(),
             _ => table.names.is_none(),
@@ -133,11 +129,7 @@ impl Call for Lists {
     }
 
     fn rule(&self, input: &Input, met: &mut Met) -> Ruling {
-        let mut beside = Beside {
-            book: Book::new(&input.sections),
-            met,
-            refused: false,
-        };
+        let mut beside = Beside { book: Book::new(&input.sections), met, refused: false };
         let log = self.run(input, &mut beside)?;
         met.all(lengths(input));
         let row = row_of(Self::ANSWERS, &[1, 6, 21], input.steps.len());

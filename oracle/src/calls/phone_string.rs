@@ -18,13 +18,8 @@ impl Call for PhoneString {
     const SHARE_RECORDED: usize = 12;
     const ANSWERS: Rows = &["no bytes", "bytes 1 to 20", "bytes 21 and more"];
     const REFUSALS: &'static [u32] = &[2, 9];
-    const MET: Table = &[
-        cells::PHONES,
-        ROWS,
-        sheet_edges::SHEET,
-        &[OUTPUT_OR_NONE, TOO_SHORT],
-        UNSOUND,
-    ];
+    const MET: Table =
+        &[cells::PHONES, ROWS, sheet_edges::SHEET, &[OUTPUT_OR_NONE, TOO_SHORT], UNSOUND];
     const LIBRARY: Function = ours::phone_string;
 
     fn short(&self) -> Vec<Input> {

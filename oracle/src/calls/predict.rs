@@ -20,12 +20,7 @@ impl Call for Predict {
     const NAME: &'static str = "predict";
     const SHARE: usize = 40;
     const SHARE_RECORDED: usize = 38;
-    const ANSWERS: Rows = &[
-        "phones 0",
-        "phones 1 to 5",
-        "phones 6 to 47",
-        "phones 48 to 94",
-    ];
+    const ANSWERS: Rows = &["phones 0", "phones 1 to 5", "phones 6 to 47", "phones 48 to 94"];
     const REFUSALS: &'static [u32] = &[1, 3, 6, 9];
     const MET: Table = &[
         words::WORD,
@@ -38,9 +33,8 @@ impl Call for Predict {
 
     fn short(&self) -> Vec<Input> {
         let random = &mut Random::new(7, "short predict");
-        let mut sets: Vec<Rc<Trees>> = (0..10)
-            .map(|shape| Rc::new(tree_shapes::to_record(random, shape)))
-            .collect();
+        let mut sets: Vec<Rc<Trees>> =
+            (0..10).map(|shape| Rc::new(tree_shapes::to_record(random, shape))).collect();
         sets.push(Rc::new(tree_edges::one_leaf(b"x-y-z")));
         sets.push(Rc::new(tree_edges::one_leaf(b"-")));
         let short = each! {

@@ -173,10 +173,7 @@ fn said(input: &Input, origin: &Origin) -> Result<Word, String> {
 
 /// The word by the original, if no refusal comes before its items are counted.
 fn on_any_sheet(input: &Input) -> Option<Word> {
-    let input = Input {
-        sheet: vec![0; ITEM],
-        ..input.clone()
-    };
+    let input = Input { sheet: vec![0; ITEM], ..input.clone() };
     let origin = origin(&input, &mut Met::default()).ok()?;
     said(&input, &origin).ok()
 }
@@ -184,12 +181,8 @@ fn on_any_sheet(input: &Input) -> Option<Word> {
 /// A lexicon with a store, letter trees, and words around them; and how many words they serve.
 fn begin(random: &mut Random, phones: &Phones) -> (Sources, usize) {
     let (scene, words) = lookup::scene(random, phones);
-    let sources = Sources {
-        scene,
-        words,
-        trees: Rc::new(tree_shapes::random(random)),
-        sheet: vec![],
-    };
+    let sources =
+        Sources { scene, words, trees: Rc::new(tree_shapes::random(random)), sheet: vec![] };
     (sources, WORDS)
 }
 
@@ -243,20 +236,13 @@ impl SayWord {
         let mut sheet = utterance[0].sheet.clone();
         let mut lines = vec![register(at, Form::Sheet, &sheet)];
         for input in utterance {
-            let input = Input {
-                sheet,
-                ..input.clone()
-            };
+            let input = Input { sheet, ..input.clone() };
             let mut front = named(0..6);
             front.push(Form::Store.shown(&input.scene.store));
             front.extend(named([at]));
             let (case, expected) = case(self, &input, &front);
             at = 13 - at;
-            sheet = expected
-                .outcome
-                .expect("the original answers")
-                .written
-                .concat();
+            sheet = expected.outcome.expect("the original answers").written.concat();
             lines.push(register(at, Form::Sheet, &sheet));
             lines.push(format!("{case} ${at}"));
         }

@@ -18,13 +18,8 @@ impl Call for Syllabify {
     const NAME: &'static str = "syllabify";
     const SHARE: usize = 30;
     const SHARE_RECORDED: usize = 33;
-    const ANSWERS: Rows = &[
-        "marks 0",
-        "one syllable",
-        "2 syllables",
-        "3 to 6 syllables",
-        "7 syllables and more",
-    ];
+    const ANSWERS: Rows =
+        &["marks 0", "one syllable", "2 syllables", "3 to 6 syllables", "7 syllables and more"];
     const REFUSALS: &'static [u32] = &[3, 7, 9];
     const MET: Table = &[&[OUTPUT], cells::PHONES, ROWS, cells::UNREAD];
     const LIBRARY: Function = ours::syllabify;
@@ -126,9 +121,8 @@ impl Syllabify {
             "pau0", "AE",
         ];
         let few = ["ae", "s", "t", "r", "ng", "pau"];
-        let clustered = [
-            "s", "p", "t", "k", "r", "l", "w", "y", "th", "sh", "h", "hh", "st", "ng", "pau", "",
-        ];
+        let clustered =
+            ["s", "p", "t", "k", "r", "l", "w", "y", "th", "sh", "h", "hh", "st", "ng", "pau", ""];
         let between = |middle: Vec<&'static str>| [&["ae"], &middle[..], &["ae"]].concat();
         let of_length = |alphabet: &[&'static str], least: usize, most: usize| {
             let lists = words::every(alphabet, most).into_iter();

@@ -14,12 +14,8 @@ use objects::{objects, Object};
 /// The libraries, and the folders in which they are looked for.
 const LEXICON_LIBRARY: &str = "libflite_cmulex.a";
 const LANGUAGE_LIBRARY: &str = "libflite_usenglish.a";
-const FOLDERS: [&str; 4] = [
-    "/usr/lib/x86_64-linux-gnu",
-    "/usr/lib/aarch64-linux-gnu",
-    "/usr/lib",
-    "/usr/local/lib",
-];
+const FOLDERS: [&str; 4] =
+    ["/usr/lib/x86_64-linux-gnu", "/usr/lib/aarch64-linux-gnu", "/usr/lib", "/usr/local/lib"];
 
 /// What flite 2.2 holds.
 const ENTRIES: usize = 36_963;
@@ -101,9 +97,7 @@ impl Library {
     fn phones(&self, name: &str) -> Result<Vec<String>, Fault> {
         let texts = self.texts(name)?;
         let used = texts.into_iter().take_while(|text| !text.is_empty());
-        Ok(used
-            .map(|text| String::from_utf8_lossy(text).into_owned())
-            .collect())
+        Ok(used.map(|text| String::from_utf8_lossy(text).into_owned()).collect())
     }
 }
 
@@ -128,10 +122,8 @@ fn entries(library: &Library) -> Result<Vec<Entry>, Fault> {
     for at in middles {
         let word = unpacked(&letters, data[at + 1..].iter());
         let phones = unpacked(&numbers, data[..at].iter().rev());
-        let named: Option<Vec<String>> = phones
-            .iter()
-            .map(|&n| table.get(n as usize).cloned())
-            .collect();
+        let named: Option<Vec<String>> =
+            phones.iter().map(|&n| table.get(n as usize).cloned()).collect();
         match (word.split_first(), named) {
             (Some((&tag, word)), Some(phones)) if fits(word, &phones) => entries.push(Entry {
                 word: String::from_utf8_lossy(word).into_owned(),
@@ -170,9 +162,7 @@ fn trees(library: &Library) -> Result<Trees, Fault> {
 
 fn cells(array: &[u8]) -> Vec<u16> {
     let pairs = array.chunks_exact(2);
-    pairs
-        .map(|pair| u16::from_le_bytes([pair[0], pair[1]]))
-        .collect()
+    pairs.map(|pair| u16::from_le_bytes([pair[0], pair[1]])).collect()
 }
 
 #[cfg(test)]
@@ -181,9 +171,7 @@ mod tests {
 
     #[test]
     fn a_missing_library_is_told_with_its_package() {
-        let told = make(Some(Path::new("/no/such/folder")))
-            .err()
-            .expect("nothing is there");
+        let told = make(Some(Path::new("/no/such/folder"))).err().expect("nothing is there");
         let said =
             "libflite_cmulex.a: is not in /no/such/folder; install it (apt-get install flite1-dev)";
         assert!(told.to_string().starts_with(said), "{told}");
@@ -192,10 +180,7 @@ mod tests {
     #[test]
     fn a_library_without_the_arrays_is_told() {
         for bytes in [&b""[..], b"!<arch>\n", b"!<arch>\nshort", &[0x7f; 200]] {
-            let library = Library {
-                path: PathBuf::from("some.a"),
-                bytes: bytes.to_vec(),
-            };
+            let library = Library { path: PathBuf::from("some.a"), bytes: bytes.to_vec() };
             let told = entries(&library).expect_err("nothing is in it").to_string();
             assert!(
                 told.starts_with("some.a: has no cmu_lex_data that can be read; install"),

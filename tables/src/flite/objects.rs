@@ -46,10 +46,7 @@ pub fn objects(library: &[u8]) -> Option<Vec<Object<'_>>> {
 impl<'a> Object<'a> {
     fn number(&self, at: usize, length: usize) -> Option<usize> {
         let bytes = self.bytes.get(at..at.checked_add(length)?)?;
-        let value = bytes
-            .iter()
-            .rev()
-            .fold(0u64, |sum, &b| (sum << 8) | b as u64);
+        let value = bytes.iter().rev().fold(0u64, |sum, &b| (sum << 8) | b as u64);
         usize::try_from(value).ok()
     }
 
@@ -68,8 +65,7 @@ impl<'a> Object<'a> {
     fn headers(&self, kind: u32) -> Vec<Header> {
         let count = self.number(0x3c, 2).unwrap_or(0);
         let all = (0..count).filter_map(|section| self.header(section));
-        all.filter(|header| header.kind == kind && header.size <= self.bytes.len())
-            .collect()
+        all.filter(|header| header.kind == kind && header.size <= self.bytes.len()).collect()
     }
 
     /// The bytes at a place of the file up to the next 0.

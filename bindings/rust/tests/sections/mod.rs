@@ -38,18 +38,11 @@ pub fn cells(phones: &[&str]) -> Vec<u8> {
 }
 
 /// A lexicon without entries.
-pub const NO_WORDS: Lexicon<'static> = Lexicon {
-    phones: b"\0\0\0\0",
-    index: b"\0\0\0\0",
-    data: b"",
-};
+pub const NO_WORDS: Lexicon<'static> =
+    Lexicon { phones: b"\0\0\0\0", index: b"\0\0\0\0", data: b"" };
 
 /// Letter trees without nodes.
-pub const NO_TREES: Letters<'static> = Letters {
-    phones: b"\0\0\0\0",
-    index: &[0; 52],
-    model: b"",
-};
+pub const NO_TREES: Letters<'static> = Letters { phones: b"\0\0\0\0", index: &[0; 52], model: b"" };
 
 /// What stands on a sheet: each word with its syllables in brackets, their phones and stress.
 pub fn reading(sheet: &Sheet<'_>) -> String {

@@ -32,20 +32,14 @@ pub fn in_rattle(text: &str) -> Result<Vec<Function>, String> {
     heads
         .map(|head| {
             let (name, arguments, behind) = head_parts(head, "pub extern \"C\" fn ")?;
-            let slices = arguments
-                .iter()
-                .map(|argument| match argument.split_once(": ") {
-                    Some((slice, "&[u8]")) => Ok(slice_named(slice, false)),
-                    Some((slice, "&mut [u8]")) => Ok(slice_named(slice, true)),
-                    _ => Err(format!("{name}: {argument} is no slice of bytes")),
-                });
+            let slices = arguments.iter().map(|argument| match argument.split_once(": ") {
+                Some((slice, "&[u8]")) => Ok(slice_named(slice, false)),
+                Some((slice, "&mut [u8]")) => Ok(slice_named(slice, true)),
+                _ => Err(format!("{name}: {argument} is no slice of bytes")),
+            });
             let slices = slices.collect::<Result<_, _>>()?;
             let answer = answer_behind(name, behind)?;
-            Ok(Function {
-                name: name.into(),
-                slices,
-                answer,
-            })
+            Ok(Function { name: name.into(), slices, answer })
         })
         .collect()
 }
@@ -53,31 +47,21 @@ pub fn in_rattle(text: &str) -> Result<Vec<Function>, String> {
 /// The functions of the binding's one foreign block.
 pub fn in_rust(text: &str) -> Result<Vec<Function>, String> {
     let text = without_comments(text);
-    let (_, block) = text
-        .split_once("extern \"C\" {")
-        .ok_or("there is no foreign block")?;
-    let (block, _) = block
-        .split_once('}')
-        .ok_or("the foreign block does not end")?;
+    let (_, block) = text.split_once("extern \"C\" {").ok_or("there is no foreign block")?;
+    let (block, _) = block.split_once('}').ok_or("the foreign block does not end")?;
     let heads = block.split(';').filter(|head| !head.trim().is_empty());
     heads
         .map(|head| {
             let (name, arguments, behind) = head_parts(head, "fn ")?;
-            let passed = arguments
-                .iter()
-                .map(|argument| match argument.split_once(": ") {
-                    Some((given, "*const u8")) => Ok((given, Passed::Read)),
-                    Some((given, "*mut u8")) => Ok((given, Passed::Written)),
-                    Some((given, "usize")) => Ok((given, Passed::Length)),
-                    _ => Err(format!("{name}: {argument} is no part of a slice")),
-                });
+            let passed = arguments.iter().map(|argument| match argument.split_once(": ") {
+                Some((given, "*const u8")) => Ok((given, Passed::Read)),
+                Some((given, "*mut u8")) => Ok((given, Passed::Written)),
+                Some((given, "usize")) => Ok((given, Passed::Length)),
+                _ => Err(format!("{name}: {argument} is no part of a slice")),
+            });
             let slices = joined(name, passed.collect::<Result<_, _>>()?)?;
             let answer = answer_behind(name, behind)?;
-            Ok(Function {
-                name: name.into(),
-                slices,
-                answer,
-            })
+            Ok(Function { name: name.into(), slices, answer })
         })
         .collect()
 }
@@ -89,9 +73,7 @@ pub fn in_c(text: &str) -> Result<Vec<Function>, String> {
     heads
         .map(|head| {
             let (before, _) = head.split_once('(').expect("it was sought");
-            let (answer, _) = before
-                .rsplit_once(char::is_whitespace)
-                .unwrap_or(("", before));
+            let (answer, _) = before.rsplit_once(char::is_whitespace).unwrap_or(("", before));
             let (name, arguments, _) = head_parts(head, answer)?;
             let passed = arguments.iter().map(|argument| {
                 let const_bytes = argument.strip_prefix("const uint8_t *");
@@ -106,11 +88,7 @@ pub fn in_c(text: &str) -> Result<Vec<Function>, String> {
             });
             let slices = joined(name, passed.collect::<Result<_, _>>()?)?;
             let answer = answer.trim().replace("struct pronouncer_answer", "Answer");
-            Ok(Function {
-                name: name.into(),
-                slices,
-                answer,
-            })
+            Ok(Function { name: name.into(), slices, answer })
         })
         .collect()
 }
@@ -118,24 +96,17 @@ pub fn in_c(text: &str) -> Result<Vec<Function>, String> {
 /// The fields of `pub struct Answer`, in Rattle or in Rust, which must have C's layout.
 pub fn fields_in_rust(text: &str) -> Result<Fields, String> {
     let text = without_comments(text);
-    let (before, behind) = text
-        .split_once("pub struct Answer {")
-        .ok_or("there is no Answer")?;
+    let (before, behind) = text.split_once("pub struct Answer {").ok_or("there is no Answer")?;
     let attributes = before.rsplit('}').next().unwrap_or(before);
     if !attributes.contains("#[repr(C)]") {
         return Err("Answer has not C's layout".into());
     }
     let body = behind.split('}').next().unwrap_or(behind);
     let rows = body.split(',').map(str::trim).filter(|row| !row.is_empty());
-    rows.map(|row| {
-        match row
-            .strip_prefix("pub ")
-            .and_then(|row| row.split_once(": "))
-        {
-            Some((name, "u32")) => Ok((name.into(), 32)),
-            Some((name, "u64")) => Ok((name.into(), 64)),
-            _ => Err(format!("Answer: {row} is no u32 and no u64")),
-        }
+    rows.map(|row| match row.strip_prefix("pub ").and_then(|row| row.split_once(": ")) {
+        Some((name, "u32")) => Ok((name.into(), 32)),
+        Some((name, "u64")) => Ok((name.into(), 64)),
+        _ => Err(format!("Answer: {row} is no u32 and no u64")),
     })
     .collect()
 }
@@ -143,17 +114,13 @@ pub fn fields_in_rust(text: &str) -> Result<Fields, String> {
 /// The fields of the header's `struct pronouncer_answer`.
 pub fn fields_in_c(text: &str) -> Result<Fields, String> {
     let text = without_comments(text);
-    let (_, behind) = text
-        .split_once("struct pronouncer_answer {")
-        .ok_or("there is no answer")?;
+    let (_, behind) = text.split_once("struct pronouncer_answer {").ok_or("there is no answer")?;
     let body = behind.split('}').next().unwrap_or(behind);
     let rows = body.split(';').map(str::trim).filter(|row| !row.is_empty());
     rows.map(|row| match row.split_once(' ') {
         Some(("uint32_t", name)) => Ok((name.into(), 32)),
         Some(("uint64_t", name)) => Ok((name.into(), 64)),
-        _ => Err(format!(
-            "struct pronouncer_answer: {row} is no uint32_t and no uint64_t"
-        )),
+        _ => Err(format!("struct pronouncer_answer: {row} is no uint32_t and no uint64_t")),
     })
     .collect()
 }
@@ -182,10 +149,7 @@ pub fn differences(source: &[Function], place: &str, found: &[Function]) -> Vec<
 
 fn slice_named(name: &str, written: bool) -> Slice {
     let name = if name == "dat" { "data" } else { name };
-    Slice {
-        name: name.into(),
-        written,
-    }
+    Slice { name: name.into(), written }
 }
 
 /// Pointers, each with its length behind it, as slices.
@@ -215,17 +179,12 @@ fn head_parts<'t>(
         Some((name.trim(), arguments, behind))
     });
     let (name, arguments, behind) = parts.ok_or_else(|| format!("no function: {head}"))?;
-    let arguments = arguments
-        .split(',')
-        .map(str::trim)
-        .filter(|argument| !argument.is_empty());
+    let arguments = arguments.split(',').map(str::trim).filter(|argument| !argument.is_empty());
     Ok((name, arguments.collect(), behind))
 }
 
 fn answer_behind(name: &str, behind: &str) -> Result<String, String> {
-    let (_, answer) = behind
-        .split_once("-> ")
-        .ok_or_else(|| format!("{name} answers nothing"))?;
+    let (_, answer) = behind.split_once("-> ").ok_or_else(|| format!("{name} answers nothing"))?;
     Ok(answer.split_whitespace().next().unwrap_or("").into())
 }
 
@@ -233,25 +192,15 @@ fn answer_behind(name: &str, behind: &str) -> Result<String, String> {
 fn without_comments(text: &str) -> String {
     let mut plain = String::new();
     for (place, part) in text.split("/*").enumerate() {
-        let code = if place == 0 {
-            part
-        } else {
-            part.split_once("*/").map_or("", |(_, code)| code)
-        };
+        let code =
+            if place == 0 { part } else { part.split_once("*/").map_or("", |(_, code)| code) };
         plain += code;
     }
-    let lines = plain
-        .lines()
-        .map(|line| line.split("//").next().unwrap_or(line));
-    lines
-        .filter(|line| !is_directive(line))
-        .flat_map(|line| [line, "\n"])
-        .collect()
+    let lines = plain.lines().map(|line| line.split("//").next().unwrap_or(line));
+    lines.filter(|line| !is_directive(line)).flat_map(|line| [line, "\n"]).collect()
 }
 
 fn is_directive(line: &str) -> bool {
     let word = line.trim_start();
-    ["#if", "#endif", "#define", "#include"]
-        .iter()
-        .any(|start| word.starts_with(start))
+    ["#if", "#endif", "#define", "#include"].iter().any(|start| word.starts_with(start))
 }

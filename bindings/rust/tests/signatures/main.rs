@@ -26,9 +26,7 @@ const CALLS: [&str; 13] = [
 ];
 
 fn text_of(path: &str) -> String {
-    let whole = Path::new(env!("CARGO_MANIFEST_DIR"))
-        .join("../..")
-        .join(path);
+    let whole = Path::new(env!("CARGO_MANIFEST_DIR")).join("../..").join(path);
     fs::read_to_string(&whole).unwrap_or_else(|fault| panic!("{}: {fault}", whole.display()))
 }
 
@@ -55,20 +53,13 @@ fn compared(rattle: &str, header: &str, binding: &str) -> Vec<String> {
         Ok(found) => differences(&source, place, &found),
         Err(fault) => vec![fault],
     };
-    [
-        beside("the header", in_c(header)),
-        beside("the binding", in_rust(binding)),
-    ]
-    .concat()
+    [beside("the header", in_c(header)), beside("the binding", in_rust(binding))].concat()
 }
 
 #[test]
 fn signatures_are_the_sources() {
     let source = in_rattle(&rattle()).expect("the Rattle source can be read");
-    let mut names: Vec<String> = source
-        .iter()
-        .map(|function| function.name.clone())
-        .collect();
+    let mut names: Vec<String> = source.iter().map(|function| function.name.clone()).collect();
     let mut wanted = CALLS.map(|call| format!("pronouncer_{call}"));
     names.sort();
     wanted.sort();
@@ -94,16 +85,8 @@ fn altered(text: &str, from: &str, to: &str) -> String {
 
 /// Alterations of the header, each with words of what must be told.
 const HEADER_ALTERED: &[(&str, &str, &str)] = &[
-    (
-        "const uint8_t *data, size_t data_len);",
-        "const uint8_t *data);",
-        "data has no length",
-    ),
-    (
-        ",\n    const uint8_t *data, size_t data_len);",
-        ");",
-        "the header has",
-    ),
+    ("const uint8_t *data, size_t data_len);", "const uint8_t *data);", "data has no length"),
+    (",\n    const uint8_t *data, size_t data_len);", ");", "the header has"),
     (
         "const uint8_t *index, size_t index_len",
         "uint8_t *index, size_t index_len",
@@ -135,11 +118,7 @@ const HEADER_ALTERED: &[(&str, &str, &str)] = &[
         "void pronouncer_new_store",
         "the header has",
     ),
-    (
-        "pronouncer_is_vowel(",
-        "pronouncer_is_a_vowel(",
-        "the header lacks pronouncer_is_vowel",
-    ),
+    ("pronouncer_is_vowel(", "pronouncer_is_a_vowel(", "the header lacks pronouncer_is_vowel"),
     (
         "#endif\n\n#endif",
         "int pronouncer_more(uint8_t *a, size_t a_len);\n#endif\n\n#endif",
@@ -152,10 +131,7 @@ fn an_altered_header_is_told() {
     let plain = header();
     for (from, to, wanted) in HEADER_ALTERED {
         let told = compared(&rattle(), &altered(&plain, from, to), &binding());
-        assert!(
-            told.iter().any(|line| line.contains(wanted)),
-            "{from:?} to {to:?}: {told:?}"
-        );
+        assert!(told.iter().any(|line| line.contains(wanted)), "{from:?} to {to:?}: {told:?}");
     }
 }
 
@@ -170,36 +146,16 @@ const IS_VOWEL: &str = "fn pronouncer_is_vowel(phone: *const u8, phone_len: usiz
 
 /// Alterations of the binding, each with words of what must be told.
 const BINDING_ALTERED: &[(&str, &str, &str)] = &[
-    (
-        "index: *const u8,\n        index_len: usize,\n",
-        "",
-        "the binding has",
-    ),
+    ("index: *const u8,\n        index_len: usize,\n", "", "the binding has"),
     ("data: *const u8,", "data: *mut u8,", "the binding has"),
     ("out: *mut u8,", "out: *const u8,", "the binding has"),
     (WORD_AND_TAG, TAG_AND_WORD, "the binding has"),
     ("marks_len: usize", "marks_len: u32", "no part of a slice"),
-    (
-        "store_len: usize) -> Answer",
-        "store_len: usize) -> u32",
-        "the binding has",
-    ),
-    (
-        "store_len: usize) -> Answer",
-        "store_len: usize)",
-        "answers nothing",
-    ),
-    (
-        "pronouncer_new_sheet(",
-        "pronouncer_newer_sheet(",
-        "the binding lacks pronouncer_new_sheet",
-    ),
+    ("store_len: usize) -> Answer", "store_len: usize) -> u32", "the binding has"),
+    ("store_len: usize) -> Answer", "store_len: usize)", "answers nothing"),
+    ("pronouncer_new_sheet(", "pronouncer_newer_sheet(", "the binding lacks pronouncer_new_sheet"),
     (IS_VOWEL, "", "the binding lacks pronouncer_is_vowel"),
-    (
-        "pronouncer_split_stress(",
-        "pronouncer_is_vowel(",
-        "has pronouncer_is_vowel twice",
-    ),
+    ("pronouncer_split_stress(", "pronouncer_is_vowel(", "has pronouncer_is_vowel twice"),
 ];
 
 #[test]
@@ -207,10 +163,7 @@ fn an_altered_binding_is_told() {
     let plain = binding();
     for (from, to, wanted) in BINDING_ALTERED {
         let told = compared(&rattle(), &header(), &altered(&plain, from, to));
-        assert!(
-            told.iter().any(|line| line.contains(wanted)),
-            "{from:?} to {to:?}: {told:?}"
-        );
+        assert!(told.iter().any(|line| line.contains(wanted)), "{from:?} to {to:?}: {told:?}");
     }
 }
 
@@ -242,10 +195,7 @@ fn an_altered_source_is_told() {
     let plain = rattle();
     for (from, to) in alterations {
         let told = compared(&altered(&plain, from, to), &header(), &binding());
-        assert!(
-            told.len() >= 2,
-            "header and binding both part from {to:?}: {told:?}"
-        );
+        assert!(told.len() >= 2, "header and binding both part from {to:?}: {told:?}");
     }
 }
 
@@ -264,16 +214,9 @@ fn an_altered_answer_is_told() {
         ("pub kind: u32,", "pub kind: u64,"),
         ("pub third: u64,", ""),
         ("#[repr(C)]", ""),
-        (
-            "pub value: u64,\n    pub second: u64,",
-            "pub second: u64,\n    pub value: u64,",
-        ),
+        ("pub value: u64,\n    pub second: u64,", "pub second: u64,\n    pub value: u64,"),
     ] {
-        assert_ne!(
-            fields_in_rust(&altered(&binding(), from, to)),
-            source,
-            "{to}"
-        );
+        assert_ne!(fields_in_rust(&altered(&binding(), from, to)), source, "{to}");
     }
 }
 
@@ -294,9 +237,7 @@ fn same_number(kind: &str, case: &str, number: u32) {
     let row = format!("{kind}::{case} => {number},");
     assert!(answers().contains(&row), "the source lacks {row}");
     let row = format!("    PRONOUNCER_{} = {number}", constant(case));
-    let is_there = header()
-        .lines()
-        .any(|line| line.trim_end_matches(',').starts_with(&row));
+    let is_there = header().lines().any(|line| line.trim_end_matches(',').starts_with(&row));
     assert!(is_there, "the header lacks {row}");
 }
 
@@ -339,9 +280,8 @@ fn sizes_are_the_headers() {
     for (name, here, scope) in sizes {
         assert_eq!(here, scope, "{name}");
         let row = format!("#define PRONOUNCER_{name} {scope}");
-        let is_there = header()
-            .lines()
-            .any(|line| line.split(" /*").next().unwrap_or("").trim_end() == row);
+        let is_there =
+            header().lines().any(|line| line.split(" /*").next().unwrap_or("").trim_end() == row);
         assert!(is_there, "the header lacks {row}");
     }
 }

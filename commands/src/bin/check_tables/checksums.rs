@@ -17,11 +17,7 @@ const TABLE: [u32; 256] = {
         let mut sum = byte as u32;
         let mut bit = 0;
         while bit < 8 {
-            sum = if sum & 1 == 1 {
-                sum >> 1 ^ 0xedb8_8320
-            } else {
-                sum >> 1
-            };
+            sum = if sum & 1 == 1 { sum >> 1 ^ 0xedb8_8320 } else { sum >> 1 };
             bit += 1;
         }
         table[byte] = sum;
@@ -53,10 +49,7 @@ pub fn check(folder: &Path, sums: &[(&'static str, u32)], report: &mut Report) {
     match crate::folder::read(folder, FILE) {
         Ok(text) => check_lines(&String::from_utf8_lossy(&text), sums, report),
         Err(error) if error.is_missing() => {
-            report.note(
-                FILE,
-                "there is no such file, so that a changed bit may go unseen",
-            );
+            report.note(FILE, "there is no such file, so that a changed bit may go unseen");
             return;
         }
         Err(error) => report.fault(Kind::Missing, Place::of(FILE), error.sentence()),
@@ -85,20 +78,14 @@ fn check_lines(text: &str, sums: &[(&'static str, u32)], report: &mut Report) {
         listed.push(name);
         compare(name, sum, sums, report);
     }
-    if let Some(name) = SECTION_NAMES
-        .into_iter()
-        .find(|name| !listed.contains(name))
-    {
+    if let Some(name) = SECTION_NAMES.into_iter().find(|name| !listed.contains(name)) {
         let sentence = format!("has no line for {name}: expected one for each of the eight");
         report.fault(Kind::Checksum, Place::of(FILE), sentence);
     }
 }
 
 fn compare(name: &'static str, listed: u32, sums: &[(&'static str, u32)], report: &mut Report) {
-    if let Some((_, sum)) = sums
-        .iter()
-        .find(|(read, sum)| *read == name && *sum != listed)
-    {
+    if let Some((_, sum)) = sums.iter().find(|(read, sum)| *read == name && *sum != listed) {
         let sentence = format!(
             "its checksum is {sum:08x}: expected {listed:08x}, as the file {FILE} has it; take a whole copy of both"
         );

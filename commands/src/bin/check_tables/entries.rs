@@ -21,12 +21,7 @@ impl<'a> Entry<'a> {
         let (&tag, rest) = data.get(at..)?.split_first()?;
         let (word, rest) = counted(rest)?;
         let (numbers, _) = counted(rest)?;
-        Some(Entry {
-            at,
-            tag,
-            word,
-            numbers,
-        })
+        Some(Entry { at, tag, word, numbers })
     }
 
     /// Where it ends.
@@ -167,18 +162,12 @@ fn misplaced(lexicon: &Lexicon, phones: usize, i: usize, wrong: &Wrong) -> Optio
 
 /// Where the offset of entry i stands.
 fn index_place(i: usize) -> Place {
-    Place {
-        entry: Some(i),
-        ..Place::at("lex.index", 4 + 4 * i)
-    }
+    Place { entry: Some(i), ..Place::at("lex.index", 4 + 4 * i) }
 }
 
 /// A byte of entry i.
 fn data_place(i: usize, byte: usize) -> Place {
-    Place {
-        entry: Some(i),
-        ..Place::at("lex.data", byte)
-    }
+    Place { entry: Some(i), ..Place::at("lex.data", byte) }
 }
 
 /// The fault of entry i where it stands.

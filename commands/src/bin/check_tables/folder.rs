@@ -27,10 +27,7 @@ impl Unread {
                 "cannot be read: it is no file. Put the file in its place.".to_string()
             }
             Unread::Failed(error) => {
-                let reason = error
-                    .source()
-                    .map(|reason| reason.to_string())
-                    .unwrap_or_default();
+                let reason = error.source().map(|reason| reason.to_string()).unwrap_or_default();
                 format!("cannot be read: {reason}. See that the file is there and may be read.")
             }
         }
@@ -62,8 +59,7 @@ impl Reading<'_> {
                 forms::check(name, &bytes, &mut self.report).then_some(bytes)
             }
             Err(error) => {
-                self.report
-                    .fault(Kind::Missing, Place::of(name), error.sentence());
+                self.report.fault(Kind::Missing, Place::of(name), error.sentence());
                 None
             }
         }
@@ -72,11 +68,7 @@ impl Reading<'_> {
 
 /// Looks at a folder.
 pub fn check(folder: &Path) -> Report {
-    let mut reading = Reading {
-        folder,
-        report: Report::of(folder),
-        sums: Vec::new(),
-    };
+    let mut reading = Reading { folder, report: Report::of(folder), sums: Vec::new() };
     let lex = ["lex.phones", "lex.index", "lex.data"].map(|name| reading.section(name));
     let lexicon = check_lexicon(&lex, &mut reading.report);
     let lts = ["lts.phones", "lts.index", "lts.model"].map(|name| reading.section(name));
@@ -94,14 +86,8 @@ fn check_lexicon<'a>(lex: &'a [Option<Vec<u8>>; 3], report: &mut Report) -> Opti
     let [Some(phones), index, data] = lex else {
         return None;
     };
-    let lexicon = index
-        .as_ref()
-        .zip(data.as_ref())
-        .map(|(index, data)| Lexicon {
-            phones,
-            index,
-            data,
-        });
+    let lexicon =
+        index.as_ref().zip(data.as_ref()).map(|(index, data)| Lexicon { phones, index, data });
     let lexicon = lexicon.filter(|lexicon| entries::check(lexicon, report));
     phones::check("lex.phones", phones, lexicon.map(Uses::Entries), report);
     lexicon
@@ -112,14 +98,8 @@ fn check_letters(lts: &[Option<Vec<u8>>; 3], lexicon: Option<Lexicon>, report: &
     let [Some(phones), index, model] = lts else {
         return;
     };
-    let letters = index
-        .as_ref()
-        .zip(model.as_ref())
-        .map(|(index, model)| Letters {
-            phones,
-            index,
-            model,
-        });
+    let letters =
+        index.as_ref().zip(model.as_ref()).map(|(index, model)| Letters { phones, index, model });
     let entries = lexicon.iter().flat_map(entries::all);
     let words = entries.map(|entry| entry.word);
     let trees = letters.and_then(|letters| trees::check(&letters, words, report));

@@ -53,10 +53,8 @@ fn taken(name: &str, bytes: &[u8]) -> Result<(), Refused> {
         index: section("lts.index", &[0; STARTS]),
         model: section("lts.model", &[]),
     };
-    let sayable = Sayable {
-        prefix: section("aswd.p", &[0; FRONT]),
-        suffix: section("aswd.s", &[0; FRONT]),
-    };
+    let sayable =
+        Sayable { prefix: section("aswd.p", &[0; FRONT]), suffix: section("aswd.s", &[0; FRONT]) };
     lexicon.check_lexicon()?;
     letters.predict("", &mut [])?;
     sayable.is_sayable("")?;

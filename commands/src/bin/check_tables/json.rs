@@ -106,9 +106,7 @@ impl From<&Summary> for Json {
     fn from(summary: &Summary) -> Json {
         let unused = |place: usize| {
             let phones = summary.unused[place].as_ref();
-            phones.map_or(Json::Null, |phones| {
-                phones.iter().map(String::as_str).collect()
-            })
+            phones.map_or(Json::Null, |phones| phones.iter().map(String::as_str).collect())
         };
         let deepest = summary.deepest.map(|(nodes, letter)| {
             Json::Object(vec![("nodes", nodes.into()), ("letter", letter.into())])
@@ -128,16 +126,8 @@ impl From<&Summary> for Json {
 /// The fields of a place that are known.
 fn place(place: &Place) -> Vec<(&'static str, Json)> {
     let mut fields = vec![("section", Json::from(place.section))];
-    let numbers = [
-        ("byte", place.byte),
-        ("entry", place.entry),
-        ("node", place.node),
-    ];
-    fields.extend(
-        numbers
-            .into_iter()
-            .filter_map(|(name, number)| Some((name, number?.into()))),
-    );
+    let numbers = [("byte", place.byte), ("entry", place.entry), ("node", place.node)];
+    fields.extend(numbers.into_iter().filter_map(|(name, number)| Some((name, number?.into()))));
     fields.extend(place.letter.map(|letter| ("letter", letter.into())));
     fields
 }
@@ -157,10 +147,7 @@ impl From<&Warning> for Json {
         let mut fields = place(&warning.place);
         fields.push(("phone", Json::from(&*warning.phone)));
         fields.push(("message", Json::from(&*warning.sentence)));
-        fields.push((
-            "used_by",
-            users.map_or(Json::Null, |users| users.iter().collect()),
-        ));
+        fields.push(("used_by", users.map_or(Json::Null, |users| users.iter().collect())));
         Json::Object(fields)
     }
 }

@@ -42,9 +42,7 @@ fn check_cells(name: &'static str, section: &[u8], report: &mut Report) {
 /// The state in which both machines start: the one that aswd.p's first cells lead to by "#".
 fn start(prefix: &[u8]) -> Option<usize> {
     let mut first = cells(prefix).take_while(|&(_, symbol, state)| (symbol, state) != (0, 0));
-    first
-        .find(|&(_, symbol, _)| symbol == EDGE)
-        .map(|(_, _, state)| state)
+    first.find(|&(_, symbol, _)| symbol == EDGE).map(|(_, _, state)| state)
 }
 
 /// Tells of both machines, whose sections have their form.

@@ -38,9 +38,7 @@ impl Uses<'_> {
         match self {
             Uses::Entries(lexicon) => {
                 let all = entries::all(lexicon).enumerate();
-                all.filter(|(_, entry)| has(entry))
-                    .map(entry_user)
-                    .collect()
+                all.filter(|(_, entry)| has(entry)).map(entry_user).collect()
             }
             Uses::Leaves(leaves) => {
                 let all = leaves.iter().filter(|leaf| leaf.phone == number);
@@ -55,10 +53,7 @@ fn entry_user((i, entry): (usize, Entry)) -> User {
         NO_TAG => entry.shown(),
         tag => format!("{}/{}", entry.shown(), char::from(tag)),
     };
-    let place = Place {
-        entry: Some(i),
-        ..Place::at("lex.data", entry.at)
-    };
+    let place = Place { entry: Some(i), ..Place::at("lex.data", entry.at) };
     User { name, place }
 }
 
@@ -94,11 +89,7 @@ fn is_known(phone: &str) -> bool {
     let (mut slots, mut cell) = ([0; 2 * SLOT_BYTES], [0; CELL_BYTES]);
     cell[0] = bare.len() as u8;
     cell[1..=bare.len()].copy_from_slice(bare.as_bytes());
-    let nothing = Lexicon {
-        phones: &[0; 4],
-        index: &[0; 4],
-        data: &[],
-    };
+    let nothing = Lexicon { phones: &[0; 4], index: &[0; 4], data: &[] };
     let added = Store::new_store(&mut slots)
         .and_then(|mut store| store.add_entry(&nothing, "a", "", PhoneList::from_cells(&cell)));
     !added.is_err_and(|refused| refused.refusal == Refusal::UnknownPhone)
@@ -121,9 +112,7 @@ pub fn check(name: &'static str, section: &[u8], uses: Option<Uses>, report: &mu
         for part in parts(name, phone.text) {
             if !is_known(part) {
                 let users = uses.map(|uses| uses.users(number));
-                report
-                    .details
-                    .push(warning(name, number, phone, part, users));
+                report.details.push(warning(name, number, phone, part, users));
             }
         }
     }

@@ -57,17 +57,11 @@ pub struct Place {
 
 impl Place {
     pub fn of(section: &'static str) -> Place {
-        Place {
-            section,
-            ..Place::default()
-        }
+        Place { section, ..Place::default() }
     }
 
     pub fn at(section: &'static str, byte: usize) -> Place {
-        Place {
-            byte: Some(byte),
-            ..Place::of(section)
-        }
+        Place { byte: Some(byte), ..Place::of(section) }
     }
 }
 
@@ -101,11 +95,7 @@ impl Fault {
                 (Kind::Internal, Place::of(section), sentence)
             }
         };
-        Some(Fault {
-            kind,
-            place,
-            sentence,
-        })
+        Some(Fault { kind, place, sentence })
     }
 }
 
@@ -162,20 +152,12 @@ pub struct Report {
 
 impl Report {
     pub fn of(folder: &Path) -> Report {
-        Report {
-            folder: folder.to_path_buf(),
-            summary: Summary::default(),
-            details: Vec::new(),
-        }
+        Report { folder: folder.to_path_buf(), summary: Summary::default(), details: Vec::new() }
     }
 
     pub fn fault(&mut self, kind: Kind, place: Place, sentence: impl Into<String>) {
         let sentence = sentence.into();
-        self.details.push(Detail::Fault(Fault {
-            kind,
-            place,
-            sentence,
-        }));
+        self.details.push(Detail::Fault(Fault { kind, place, sentence }));
     }
 
     pub fn note(&mut self, name: &'static str, sentence: &'static str) {
@@ -225,19 +207,12 @@ mod tests {
     #[test]
     fn the_library_and_the_search_agree_or_it_is_told() {
         assert_eq!(judged(true, None), None);
-        assert_eq!(
-            judged(false, Some("x")),
-            Some((Kind::Lexicon, "x".to_string()))
-        );
+        assert_eq!(judged(false, Some("x")), Some((Kind::Lexicon, "x".to_string())));
         let told = judged(true, Some("x")).expect("they disagree");
         assert_eq!(told.0, Kind::Internal);
-        assert!(told
-            .1
-            .starts_with("the library finds no fault, but x; tell the makers"));
+        assert!(told.1.starts_with("the library finds no fault, but x; tell the makers"));
         let told = judged(false, None).expect("they disagree");
         assert_eq!(told.0, Kind::Internal);
-        assert!(told
-            .1
-            .starts_with("the library finds a fault, and its place was not found; tell"));
+        assert!(told.1.starts_with("the library finds a fault, and its place was not found; tell"));
     }
 }

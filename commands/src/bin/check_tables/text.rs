@@ -16,10 +16,7 @@ pub fn write(report: &Report, out: &mut dyn Write) -> io::Result<()> {
     for line in counts(report) {
         writeln!(out, "  {line}")?;
     }
-    report
-        .details
-        .iter()
-        .try_for_each(|detail| writeln!(out, "{}", line(detail)))
+    report.details.iter().try_for_each(|detail| writeln!(out, "{}", line(detail)))
 }
 
 fn verdict(report: &Report) -> String {
@@ -43,23 +40,16 @@ fn counts(report: &Report) -> Vec<String> {
         (summary.homographs, "homographs"),
         (summary.nodes, "nodes"),
     ];
-    let known = numbers
-        .into_iter()
-        .filter_map(|(number, things)| Some(format!("{} {things}", number?)));
+    let known =
+        numbers.into_iter().filter_map(|(number, things)| Some(format!("{} {things}", number?)));
     let mut lines = vec![known.collect::<Vec<String>>().join(", ")];
     if let Some((depth, letter)) = summary.deepest {
         lines.push(format!("deepest tree: {depth} nodes, of \"{letter}\""));
     }
-    for (name, unused) in ["lex.phones", "lts.phones"]
-        .into_iter()
-        .zip(&summary.unused)
-    {
+    for (name, unused) in ["lex.phones", "lts.phones"].into_iter().zip(&summary.unused) {
         if let Some(unused) = unused {
-            let names = if unused.is_empty() {
-                "none".to_string()
-            } else {
-                one_line(&unused.join(" "))
-            };
+            let names =
+                if unused.is_empty() { "none".to_string() } else { one_line(&unused.join(" ")) };
             lines.push(format!("phones of {name} never used: {names}"));
         }
     }
@@ -95,11 +85,8 @@ fn users(warning: &Warning) -> String {
     let Some(users) = &warning.users else {
         return String::new();
     };
-    let named: Vec<String> = users
-        .iter()
-        .take(MOST_NAMED)
-        .map(|user| one_line(&user.name))
-        .collect();
+    let named: Vec<String> =
+        users.iter().take(MOST_NAMED).map(|user| one_line(&user.name)).collect();
     match users.len().saturating_sub(MOST_NAMED) {
         _ if users.is_empty() => "; nothing uses it".to_string(),
         0 => format!("; used by {}", named.join(", ")),

@@ -44,11 +44,7 @@ type Told = (Place, String);
 
 impl<'a> Trees<'a> {
     fn of(letters: Letters<'a>) -> Trees<'a> {
-        Trees {
-            letters,
-            heights: vec![0; letters.model.len() / NODE],
-            leaves: Vec::new(),
-        }
+        Trees { letters, heights: vec![0; letters.model.len() / NODE], leaves: Vec::new() }
     }
 
     /// The leaves that letters can reach, once all trees were walked.
@@ -94,10 +90,7 @@ impl<'a> Trees<'a> {
     }
 
     fn height(&self, node: usize) -> u32 {
-        let below = self
-            .sides(node)
-            .iter()
-            .map(|&side| self.heights[self.next(node, side)]);
+        let below = self.sides(node).iter().map(|&side| self.heights[self.next(node, side)]);
         1 + below.max().unwrap_or(0)
     }
 
@@ -132,29 +125,18 @@ impl<'a> Trees<'a> {
             );
             return Err((node_place(letter, node, byte), sentence));
         }
-        self.leaves.push(Leaf {
-            node,
-            letter,
-            phone,
-        });
+        self.leaves.push(Leaf { node, letter, phone });
         Ok(())
     }
 
     fn outside(&self, letter: char, from: Option<(usize, usize)>, node: usize) -> Told {
-        let expected = format!(
-            "expected one of the {} nodes that lts.model has",
-            self.heights.len()
-        );
+        let expected =
+            format!("expected one of the {} nodes that lts.model has", self.heights.len());
         match from {
             None => {
-                let place = Place {
-                    section: "lts.index",
-                    ..node_place(letter, node, start_byte(letter))
-                };
-                (
-                    place,
-                    format!("the tree of \"{letter}\" begins at node {node}: {expected}"),
-                )
+                let place =
+                    Place { section: "lts.index", ..node_place(letter, node, start_byte(letter)) };
+                (place, format!("the tree of \"{letter}\" begins at node {node}: {expected}"))
             }
             Some((parent, side)) => (
                 node_place(letter, parent, NODE * parent + side),
@@ -168,11 +150,7 @@ impl<'a> Trees<'a> {
 
 /// A byte of a node in a letter's tree.
 fn node_place(letter: char, node: usize, byte: usize) -> Place {
-    Place {
-        letter: Some(letter),
-        node: Some(node),
-        ..Place::at(MODEL, byte)
-    }
+    Place { letter: Some(letter), node: Some(node), ..Place::at(MODEL, byte) }
 }
 
 /// The fault of a side that leads back to a node on the way; a letter's first node is on no way yet.

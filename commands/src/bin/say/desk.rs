@@ -34,10 +34,7 @@ impl Word {
             Some(at) => (&field[..at + 1], &field[at + 2..]),
             None => (field, &field[..0]),
         };
-        Word {
-            text: text.to_vec(),
-            tag: tag.to_vec(),
-        }
+        Word { text: text.to_vec(), tag: tag.to_vec() }
     }
 
     /// As it is typed.
@@ -70,11 +67,8 @@ impl Desk<'_> {
         let asked = plain::words(self, &typed);
         let differs = asked != [typed];
         for word in asked {
-            let name = if differs {
-                [field, b" -> ", &word.field()].concat()
-            } else {
-                field.to_vec()
-            };
+            let name =
+                if differs { [field, b" -> ", &word.field()].concat() } else { field.to_vec() };
             status = status.and(self.answer(name, &word, out)?);
         }
         Ok(status)
@@ -91,9 +85,7 @@ impl Desk<'_> {
                 return Ok(Status::Refused);
             }
         };
-        let source = said
-            .source
-            .map_or("letters".into(), |found| found.to_string());
+        let source = said.source.map_or("letters".into(), |found| found.to_string());
         let told = format!(" ({source}):{}\n", said.reading);
         out.write_all(&[&name, told.as_bytes()].concat())?;
         if let Some(warning) = warnings::of(self, word, &said) {
@@ -108,9 +100,7 @@ impl Desk<'_> {
     /// Where a word is found, if it is.
     pub fn source(&self, word: &Word) -> Result<Option<Source>, Refused> {
         let mut phones = [0; LIST_BYTES];
-        let found = self
-            .lexicon
-            .lookup(&self.store, &word.text, &word.tag, &mut phones)?;
+        let found = self.lexicon.lookup(&self.store, &word.text, &word.tag, &mut phones)?;
         Ok(found.map(|found| found.source))
     }
 
@@ -125,11 +115,7 @@ impl Desk<'_> {
         let mut sheet = Sheet::new_sheet(&mut items)?;
         let (lexicon, letters) = (&self.lexicon, &self.letters);
         sheet.say_word(lexicon, letters, &self.store, &word.text, &word.tag)?;
-        Ok(Said {
-            source,
-            has_phones: sheet.phones().next().is_some(),
-            reading: reading(&sheet),
-        })
+        Ok(Said { source, has_phones: sheet.phones().next().is_some(), reading: reading(&sheet) })
     }
 }
 

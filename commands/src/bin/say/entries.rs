@@ -22,15 +22,13 @@ pub fn add(lexicon: &Lexicon, store: &mut Store, file: &Path) -> Result<usize, F
     let text =
         fs::read(file).map_err(|error| Fault::Told(format!("cannot read {name}: {error}")))?;
     let mut spare = vec![0; LARGEST_BYTES];
-    store
-        .add_entries(lexicon, &mut spare, &text)
-        .map_err(|refused| {
-            let told = match refused.line {
-                0 => text_refused(&text, refused),
-                line => line_refused(lexicon, &text, line, refused),
-            };
-            Fault::Told(format!("entries of {name}{told}"))
-        })
+    store.add_entries(lexicon, &mut spare, &text).map_err(|refused| {
+        let told = match refused.line {
+            0 => text_refused(&text, refused),
+            line => line_refused(lexicon, &text, line, refused),
+        };
+        Fault::Told(format!("entries of {name}{told}"))
+    })
 }
 
 /// Why a text is refused as a whole.
@@ -89,9 +87,7 @@ fn too_long(words: &[u8]) -> Option<&[u8]> {
     while let Some(inner) = word.strip_prefix(b"\"").or(word.strip_suffix(b"\"")) {
         word = inner;
     }
-    [word, words.next().unwrap_or_default()]
-        .into_iter()
-        .find(|text| text.len() > WORD_BYTES)
+    [word, words.next().unwrap_or_default()].into_iter().find(|text| text.len() > WORD_BYTES)
 }
 
 /// What stands before the first such byte.

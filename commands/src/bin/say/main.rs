@@ -55,9 +55,7 @@ something was refused or a word from its letters has no phones, with 2 if the co
 };
 
 fn main() -> ExitCode {
-    PROGRAM.run(env::args_os().skip(1), |arguments, out| {
-        run(&Asked::of(arguments)?, out)
-    })
+    PROGRAM.run(env::args_os().skip(1), |arguments, out| run(&Asked::of(arguments)?, out))
 }
 
 /// What the command line asks for.

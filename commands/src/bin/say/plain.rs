@@ -8,10 +8,7 @@ const ENDINGS: [&[u8]; 4] = [b"'s", b"'ve", b"'ll", b"'d"];
 /// The words to ask for: the typed one if it is found, else it in small letters, else that without outer punctuation,
 /// else that with its ending parted from it.
 pub fn words(desk: &Desk, typed: &Word) -> Vec<Word> {
-    let with = |text: &[u8]| Word {
-        text: text.to_vec(),
-        tag: typed.tag.clone(),
-    };
+    let with = |text: &[u8]| Word { text: text.to_vec(), tag: typed.tag.clone() };
     let folded = with(&typed.text.to_ascii_lowercase());
     let bare = with(without_punctuation(&folded.text));
     if desk.has(typed) {
@@ -24,13 +21,7 @@ pub fn words(desk: &Desk, typed: &Word) -> Vec<Word> {
         return vec![bare];
     }
     match parted(&bare.text) {
-        Some((stem, ending)) => vec![
-            with(stem),
-            Word {
-                text: ending.to_vec(),
-                tag: Vec::new(),
-            },
-        ],
+        Some((stem, ending)) => vec![with(stem), Word { text: ending.to_vec(), tag: Vec::new() }],
         None => vec![bare],
     }
 }

@@ -47,10 +47,7 @@ fn found_plainly(desk: &Desk, word: &Word) -> Option<String> {
 
 /// What the letter trees do not read: all up to the last "#", and what is no letter, but for apostrophes.
 fn left_out(word: &[u8]) -> Option<Vec<u8>> {
-    let read = word
-        .iter()
-        .rposition(|byte| *byte == b'#')
-        .map_or(0, |at| at + 1);
+    let read = word.iter().rposition(|byte| *byte == b'#').map_or(0, |at| at + 1);
     let mut left_out = word[..read].to_vec();
     let behind = word[read..].iter();
     left_out.extend(behind.filter(|byte| !byte.is_ascii_alphabetic() && **byte != b'\''));

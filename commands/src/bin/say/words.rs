@@ -59,8 +59,7 @@ fn said(desk: &Desk, text: &[u8], out: &mut dyn Write) -> Result<Status, Fault> 
 
 /// What stands between blanks, which are the library's: the bytes 9 to 13 and 32.
 pub fn fields(text: &[u8]) -> impl Iterator<Item = &[u8]> {
-    text.split(|byte| matches!(byte, 9..=13 | b' '))
-        .filter(|field| !field.is_empty())
+    text.split(|byte| matches!(byte, 9..=13 | b' ')).filter(|field| !field.is_empty())
 }
 
 /// A word or a phone in a sentence.

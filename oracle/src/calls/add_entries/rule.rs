@@ -108,16 +108,9 @@ pub fn beside_the_original(input: &Input, taken: &Taken) -> Result<Vec<u8>, Stri
     };
     let (told, list) = asked(front)?;
     if told != Ok(taken.keys.len()) {
-        return Err(format!(
-            "of the lines before a faulty one the original says {told:?}"
-        ));
+        return Err(format!("of the lines before a faulty one the original says {told:?}"));
     }
-    if let Some(Fault {
-        refusal: refusal @ (4 | 5),
-        line,
-        ..
-    }) = taken.fault
-    {
+    if let Some(Fault { refusal: refusal @ (4 | 5), line, .. }) = taken.fault {
         let (told, kept) = asked(&input.text)?;
         let stop = match told {
             Err(LexiconError::Malformed { line }) => Some((4, line)),
@@ -126,9 +119,7 @@ pub fn beside_the_original(input: &Input, taken: &Taken) -> Result<Vec<u8>, Stri
         };
         let before = scene.entries().iter().map(|placed| &placed.entry);
         if stop != Some((refusal, line)) || !kept.iter().eq(before) {
-            return Err(format!(
-                "the original stops at {stop:?}, or alters its list"
-            ));
+            return Err(format!("the original stops at {stop:?}, or alters its list"));
         }
     }
     scene.store_of(&taken.keys, &list)
@@ -141,10 +132,7 @@ pub fn features(input: &Input, taken: &Taken, met: &mut Met) {
     if let Some(fault) = fault {
         met.all(of_stop(input, taken, fault));
     }
-    met.all(of_text(
-        input,
-        fault.is_none() && !text.ends_with(b"\n") && !text.is_empty(),
-    ));
+    met.all(of_text(input, fault.is_none() && !text.ends_with(b"\n") && !text.is_empty()));
     for line in text.split_inclusive(|b| *b == b'\n') {
         let line = line.strip_suffix(b"\n").unwrap_or(line);
         let read = lines::read(line);

@@ -8,11 +8,7 @@ pub fn inputs() -> Vec<Input> {
 }
 
 fn input(scene: &Rc<Scene>, text: impl Into<Vec<u8>>) -> Input {
-    Input {
-        scene: scene.clone(),
-        spare: vec![0x99; scene.store.len()],
-        text: text.into(),
-    }
+    Input { scene: scene.clone(), spare: vec![0x99; scene.store.len()], text: text.into() }
 }
 
 /// Every text of up to five bytes over those that the rule tells apart.
@@ -107,10 +103,7 @@ fn edges() -> Vec<Input> {
             inputs.push(input(&scene, text.as_bytes()));
         }
         for len in [0, 511, 512, 2_048, 65_536] {
-            inputs.push(Input {
-                spare: vec![7; len],
-                ..input(&scene, b"a:k")
-            });
+            inputs.push(Input { spare: vec![7; len], ..input(&scene, b"a:k") });
         }
     }
     // phones that a line can name, and one that it cannot

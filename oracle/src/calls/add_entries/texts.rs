@@ -134,7 +134,5 @@ fn quoted(random: &mut Random, mut word: Vec<u8>) -> Vec<u8> {
 /// Some blanks, at least so many.
 fn blanks(random: &mut Random, least: usize) -> Vec<u8> {
     let count = least + random.weighted(&[6, 2, 1]);
-    (0..count)
-        .map(|_| random.pick_byte(b"      \t\x0b\x0c\r"))
-        .collect()
+    (0..count).map(|_| random.pick_byte(b"      \t\x0b\x0c\r")).collect()
 }

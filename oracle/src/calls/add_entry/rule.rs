@@ -15,9 +15,7 @@ pub fn refusal(input: &Input, met: &mut Met) -> Result<(), u32> {
     met.refuse(3, high, || by_3(given))?;
     let unknown = |cell: &Cell| is_over(cell) || !scene.lexicon.knows(text(cell));
     let first = cells.iter().position(unknown);
-    met.refuse(5, first.is_some(), || {
-        by_5(phones, first >= Some(MOST_PHONES))
-    })?;
+    met.refuse(5, first.is_some(), || by_5(phones, first >= Some(MOST_PHONES)))?;
     let key = key(&wanted.word, &wanted.tag);
     let entries = scene.entries();
     let is_known = entries.iter().any(|p| p.entry.key() == key);
@@ -56,10 +54,7 @@ pub fn added(input: &Input) -> Result<(Vec<Entry>, Vec<u8>), String> {
     let slot = scene.slot_for(&key);
     let store = scene.store_of(&[key], &list)?;
     let stray = stores::stray(&scene.store, &store, slot);
-    assert!(
-        stray.is_none(),
-        "the driver writes a byte that the add has no part in"
-    );
+    assert!(stray.is_none(), "the driver writes a byte that the add has no part in");
     Ok((list, store))
 }
 

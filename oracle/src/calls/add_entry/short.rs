@@ -4,13 +4,7 @@ use super::Input;
 use crate::prelude::*;
 
 pub fn inputs(phones: &Phones) -> Vec<Input> {
-    [
-        edges(),
-        small_stores(),
-        single_phones(phones),
-        altered_bytes(),
-    ]
-    .concat()
+    [edges(), small_stores(), single_phones(phones), altered_bytes()].concat()
 }
 
 pub fn input(

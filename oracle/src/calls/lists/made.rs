@@ -80,11 +80,7 @@ fn begin(random: &mut Random, phones: &Phones) -> (Sources, usize) {
     for _ in 0..random.between(1, 4) {
         words.push(words::accepted(random, &trees.alphabet));
     }
-    let sources = Sources {
-        broken: broken(random, &sections),
-        sections,
-        words,
-    };
+    let sources = Sources { broken: broken(random, &sections), sections, words };
     (sources, LISTS)
 }
 

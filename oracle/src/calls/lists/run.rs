@@ -68,11 +68,8 @@ impl Lists {
         let sheet = new_sheet::Input::new(input.sheet.clone());
         let store = side.outcome(&new_store::NewStore, &store)?;
         let sheet = side.outcome(&self.new_sheet, &sheet)?;
-        let mut state = State {
-            store: store.written.concat(),
-            sheet: sheet.written.concat(),
-            spare: None,
-        };
+        let mut state =
+            State { store: store.written.concat(), sheet: sheet.written.concat(), spare: None };
         let mut log = Log::new(&state);
         for step in &input.steps {
             if let Act::NewSheet = step.act {
@@ -157,8 +154,7 @@ impl Side for Beside<'_> {
         self.met.row("calls in all");
         self.met.row(row(C::NAME, &expected.row));
         let recovered = self.refused && accepted;
-        self.met
-            .add("refused call, then an accepted one", recovered);
+        self.met.add("refused call, then an accepted one", recovered);
         self.refused = !accepted;
         self.book.stops |= expected.met.contains(&"stop: earlier lines in the spare");
         Ok(outcome)

@@ -15,11 +15,7 @@ fn add(word: &str, tag: &str, phones: &str) -> Act {
 }
 
 fn text(text: &str) -> Act {
-    Act::AddText {
-        text: text.into(),
-        fill: 0x9e,
-        spare: None,
-    }
+    Act::AddText { text: text.into(), fill: 0x9e, spare: None }
 }
 
 pub fn inputs() -> Vec<Input> {
@@ -51,10 +47,7 @@ pub fn inputs() -> Vec<Input> {
         say(&"a".repeat(48), ""),
     ];
     let numbers: Vec<u8> = (0..acts.len() as u8).collect();
-    let step = |n: &u8| Step {
-        act: acts[usize::from(*n)].clone(),
-        broken: false,
-    };
+    let step = |n: &u8| Step { act: acts[usize::from(*n)].clone(), broken: false };
     let steps = |numbers: &[u8]| -> Vec<Step> { numbers.iter().map(step).collect() };
     let every = each! {
         for (i, numbers) in words::every(&numbers, 4).iter().enumerate();

@@ -45,16 +45,8 @@ impl Sought<'_> {
 
 /// How a runtime entry fits, how an addendum does, and where a damaged entry is met.
 pub const WAYS: &[Rows] = &[
-    &[
-        "runtime: tags agree",
-        "runtime: wanted '0' takes any",
-        "runtime: entry '0' fits any",
-    ],
-    &[
-        "addenda: tags agree",
-        "addenda: wanted '0' takes any",
-        "addenda: row '0' fits any",
-    ],
+    &["runtime: tags agree", "runtime: wanted '0' takes any", "runtime: entry '0' fits any"],
+    &["addenda: tags agree", "addenda: wanted '0' takes any", "addenda: row '0' fits any"],
     &["6: in the halving", "6: in the run or behind it"],
 ];
 
@@ -71,9 +63,7 @@ pub fn rule(scene: &Scene, wanted: &Wanted, met: &mut Met) -> Result<Found, u32>
         tag: wanted.tag.first().copied().unwrap_or(b'0'),
     };
     let entries = scene.entries().iter().map(|placed| &placed.entry);
-    let same: Vec<&Entry> = entries
-        .filter(|entry| entry.word == sought.folded)
-        .collect();
+    let same: Vec<&Entry> = entries.filter(|entry| entry.word == sought.folded).collect();
     let fits = |(tag, word, _): &Addendum| *word == sought.word && sought.fits(*tag);
     let addendum = addenda().find(fits);
     let search = lexicon.search(word, sought.tag);
@@ -119,11 +109,7 @@ fn compiled(
             met.all(nothing(sought.word, lexicon, at));
             Ok(None)
         }
-        Search::Entry {
-            first,
-            chosen,
-            exact,
-        } => {
+        Search::Entry { first, chosen, exact } => {
             met.all(chosen_entry(sought, lexicon, first, chosen, exact));
             met.all(checked(sought, lexicon, chosen));
             Ok(Some((Source::Compiled, lexicon.phones(chosen))))

@@ -164,9 +164,8 @@ fn edges() -> Vec<Input> {
         ]
     };
     let good = Scene::of(Lexicon::new(lexicon_edges::good()), vec![]);
-    let stores: Vec<Rc<Scene>> = (store_edges::limits().into_iter())
-        .map(|store| good.with_store(store))
-        .collect();
+    let stores: Vec<Rc<Scene>> =
+        (store_edges::limits().into_iter()).map(|store| good.with_store(store)).collect();
     let edge_words = each! {
         for scene in &stores;
         for word in words::edges();

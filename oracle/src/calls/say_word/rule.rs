@@ -32,12 +32,7 @@ fn split(phone: &[u8]) -> (&[u8], Option<u8>) {
 
 /// What 01 says before the items are counted. Tells what was met on the way.
 pub fn origin(input: &Input, met: &mut Met) -> Result<Origin, u32> {
-    let Input {
-        scene,
-        trees,
-        wanted,
-        ..
-    } = input;
+    let Input { scene, trees, wanted, .. } = input;
     let found = lookup::rule(scene, wanted, &mut Met::default());
     let formless = !scene.lexicon.has_form() || trees.names.is_none();
     met.refuse(1, formless, || by_1(&found))?;
@@ -62,10 +57,7 @@ pub fn origin(input: &Input, met: &mut Met) -> Result<Origin, u32> {
     met.all(by_letters(input));
     let phones = ask(|| trees.original().predict(ascii(&wanted.word)));
     let phones = phones.expect("the original predicts on trees that are whole");
-    Ok(Origin {
-        row: "letters",
-        phones: phones.iter().map(|phone| (*phone).into()).collect(),
-    })
+    Ok(Origin { row: "letters", phones: phones.iter().map(|phone| (*phone).into()).collect() })
 }
 
 rows! { pub ROWS:

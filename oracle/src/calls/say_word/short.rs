@@ -9,15 +9,7 @@ use crate::sheet_edges::in_order;
 use crate::tree_edges::one_leaf;
 
 pub fn inputs() -> Vec<Input> {
-    [
-        sheets(),
-        short_lists(),
-        exact_lengths(),
-        addenda(),
-        other_sections(),
-        edges(),
-    ]
-    .concat()
+    [sheets(), short_lists(), exact_lengths(), addenda(), other_sections(), edges()].concat()
 }
 
 fn input(
@@ -71,17 +63,13 @@ fn short_lists() -> Vec<Input> {
         .collect();
     let lexicon = Rc::new(Lexicon::of(&names, &rows));
     let rehearsed = REHEARSED.split(',').enumerate();
-    let adds: Vec<Add> = rehearsed
-        .map(|(i, phones)| store_edges::add(&format!("m{i}"), "", phones))
-        .collect();
+    let adds: Vec<Add> =
+        rehearsed.map(|(i, phones)| store_edges::add(&format!("m{i}"), "", phones)).collect();
     let empty = Scene::new(&lexicon, stores::new(adds.len() + 1, 0));
     let scene = empty.with_store(empty.grown(&adds));
     let trees = Rc::new(one_leaf(b"x"));
     let before = sheet_edges::word("z", &["1 z iy"]);
-    let sheets = [
-        new_sheet(9 * ITEM),
-        sheet_edges::sheet(&in_order(&[before]), 20 * ITEM, 0),
-    ];
+    let sheets = [new_sheet(9 * ITEM), sheet_edges::sheet(&in_order(&[before]), 20 * ITEM, 0)];
     let compiled = each! {
         for (i, row) in rows.iter().enumerate();
         [input(&scene, &trees, &sheets[i % 2], &row.word, "v")]
