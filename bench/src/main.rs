@@ -13,10 +13,6 @@ mod rows;
 mod stage;
 mod tables;
 
-#[path = "../../oracle/src/random.rs"]
-#[allow(dead_code)]
-mod random;
-
 use rows::Row;
 use std::env;
 use std::path::PathBuf;

@@ -2,8 +2,7 @@
 
 use crate::lent::Lent;
 use crate::prelude::*;
-use std::panic::{catch_unwind, AssertUnwindSafe};
-use std::sync::atomic::{AtomicBool, Ordering};
+use std::panic::{catch_unwind, set_hook, take_hook, AssertUnwindSafe};
 
 /// Names of rows of the table.
 pub type Rows = &'static [&'static str];
@@ -21,12 +20,6 @@ pub struct Outcome {
     pub altered: Option<String>,
 }
 
-impl Outcome {
-    pub fn new(answer: Answer, written: Vec<Vec<u8>>) -> Outcome {
-        Outcome { answer, written, altered: None }
-    }
-}
-
 /// What 01 and the original answer.
 pub struct Told {
     pub answer: Answer,
@@ -34,13 +27,20 @@ pub struct Told {
     pub row: &'static str,
     /// What stands at the front of each thing that the call writes.
     pub written: Vec<Vec<u8>>,
+    /// The bytes that an output needs, or would need.
+    pub need: usize,
     /// Whether the original was asked.
     pub asked: bool,
 }
 
 impl Told {
     pub fn new(answer: Answer, row: &'static str, written: Vec<Vec<u8>>) -> Told {
-        Told { answer, row, written, asked: true }
+        let need = written.first().map_or(0, Vec::len);
+        Told { answer, row, written, need, asked: true }
+    }
+
+    fn refused(refusal: u32, need: usize) -> Told {
+        Told { need, ..Told::new(Answer::refused(refusal, 0), "", vec![]) }
     }
 
     /// The same of an answer that the original has no part in.
@@ -126,13 +126,45 @@ pub trait Call: Default {
         vec![]
     }
 
+    /// What is expected by the rule and the size of the output.
     fn expected(&self, input: &Self::Input) -> Expected {
-        expected(self, input)
+        let parts = self.lent(input);
+        let mut met = Met::default();
+        let told = match self.rule(input, &mut met) {
+            Ok(told) => fitting::<Self>(told, &parts, &mut met),
+            Err(Stop::Refused(refusal, need)) => Told::refused(refusal, need).by_01(),
+            Err(Stop::RefusedBeside(refusal, need)) => Told::refused(refusal, need),
+            Err(Stop::AtOdds(why)) => {
+                let (handed, outcome) = (handed(&parts, CELL), Err(why));
+                return Expected { handed, outcome, asked: true, row: String::new(), met: vec![] };
+            }
+        };
+        let handed = handed(&parts, told.need);
+        let mut written = handed.clone();
+        for (written, front) in written.iter_mut().zip(&told.written) {
+            written[..front.len()].copy_from_slice(front);
+        }
+        Expected {
+            handed,
+            outcome: Ok(Outcome { answer: told.answer, written, altered: None }),
+            asked: told.asked,
+            row: row(told.answer.refusal, told.row),
+            met: met.counted(Self::MET),
+        }
     }
 
-    /// What the library does, given what it may write.
+    /// What the library does, lent everything between guards, given what it may write.
     fn ours(&self, input: &Self::Input, handed: &[Vec<u8>]) -> Outcome {
-        ours(self, input, handed)
+        let parts = self.lent(input);
+        let mut lent: Vec<Lent> = all_bytes(&parts, handed).into_iter().map(Lent::new).collect();
+        let answer = Self::LIBRARY(&mut lent);
+        let both = || parts.iter().zip(&lent);
+        let written = both().filter(|(part, _)| part.is_written());
+        Outcome {
+            answer,
+            written: written.map(|(_, lent)| lent.bytes().to_vec()).collect(),
+            altered: both().find_map(|(part, lent)| part.altered(lent)),
+        }
     }
 
     /// The input as a line of the recorded list, up to its arrow.
@@ -150,81 +182,25 @@ pub trait Call: Default {
     }
 }
 
-/// What is expected by a call's rule and the size of its output.
-fn expected<C: Call>(call: &C, input: &C::Input) -> Expected {
-    let parts = call.lent(input);
-    let mut met = Met::default();
-    match call.rule(input, &mut met) {
-        Ok(told) => answered::<C>(&parts, told, met),
-        Err(Stop::Refused(refusal, need)) => {
-            refused(refusal, false, handed(&parts, need), met.counted(C::MET))
-        }
-        Err(Stop::RefusedBeside(refusal, need)) => {
-            refused(refusal, true, handed(&parts, need), met.counted(C::MET))
-        }
-        Err(Stop::AtOdds(why)) => Expected {
-            handed: handed(&parts, CELL),
-            outcome: Err(why),
-            asked: true,
-            row: String::new(),
-            met: vec![],
-        },
+/// An answer, or refusal 9 where there is an output that is too short for it. Tells what the output met.
+fn fitting<C: Call>(mut told: Told, parts: &[Part], met: &mut Met) -> Told {
+    if !parts.iter().any(Part::is_output) {
+        return told;
     }
-}
-
-/// What the call may write, as it is handed in for an output of so many bytes.
-pub fn handed(parts: &[Part], need: usize) -> Vec<Vec<u8>> {
-    let written = parts.iter().filter(|part| part.is_written());
-    written.map(|part| part.handed(need)).collect()
-}
-
-fn refused(refusal: u32, asked: bool, handed: Vec<Vec<u8>>, met: Vec<&'static str>) -> Expected {
-    Expected {
-        outcome: Ok(Outcome::new(Answer::refused(refusal, 0), handed.clone())),
-        handed,
-        asked,
-        row: row(refusal, ""),
-        met,
+    let (need, len) = (told.need, handed(parts, told.need)[0].len());
+    let row = match len {
+        0 if need > 0 => Some(TOO_SHORT[1]),
+        0 if C::MET.concat().contains(&OUTPUT_OR_NONE) => Some(OUTPUT_OR_NONE[0]),
+        _ if len == need => Some(OUTPUT[0]),
+        _ if len > need => Some(OUTPUT[1]),
+        _ => (len + 1 == need).then_some(TOO_SHORT[0]),
+    };
+    if len < need {
+        *met = Met::default();
+        told = Told { asked: told.asked, ..Told::refused(9, need) };
     }
-}
-
-/// An answer, if the output is long enough for it.
-fn answered<C: Call>(parts: &[Part], told: Told, mut met: Met) -> Expected {
-    let need = told.written.first().map_or(0, Vec::len);
-    let handed = handed(parts, need);
-    if parts.iter().any(Part::is_output) {
-        let len = handed[0].len();
-        if len < need {
-            let mut met = Met::default();
-            met.shared(match len {
-                0 => Some(TOO_SHORT[1]),
-                len => (len + 1 == need).then_some(TOO_SHORT[0]),
-            });
-            return refused(9, told.asked, handed, met.counted(C::MET));
-        }
-        met.shared([output_row::<C>(need, len)]);
-    }
-    let mut written = handed.clone();
-    for (written, front) in written.iter_mut().zip(&told.written) {
-        written[..front.len()].copy_from_slice(front);
-    }
-    Expected {
-        handed,
-        outcome: Ok(Outcome::new(told.answer, written)),
-        asked: told.asked,
-        row: row(told.answer.refusal, told.row),
-        met: met.counted(C::MET),
-    }
-}
-
-/// The row of an output that is long enough.
-fn output_row<C: Call>(need: usize, len: usize) -> &'static str {
-    let tells_none = C::MET.concat().contains(&OUTPUT_OR_NONE);
-    match len > need {
-        true => OUTPUT[1],
-        false if need == 0 && tells_none => OUTPUT_OR_NONE[0],
-        false => OUTPUT[0],
-    }
+    met.shared(row);
+    told
 }
 
 /// The row of a number, of rows of which each but the first starts at one of these.
@@ -240,53 +216,15 @@ pub fn row(refusal: u32, accepted: &str) -> String {
     }
 }
 
-/// Lends everything to the library, between guards, and sees what it wrote and what it altered.
-fn ours<C: Call>(call: &C, input: &C::Input, handed: &[Vec<u8>]) -> Outcome {
-    let parts = call.lent(input);
-    let mut handed = handed.iter();
-    let mut lend = |part: &Part| match part.is_written() {
-        true => Lent::new(handed.next().expect("all that is written is handed in")),
-        false => Lent::new(&part.bytes),
-    };
-    let mut lent: Vec<Lent> = parts.iter().map(&mut lend).collect();
-    let mut outcome = Outcome::new(C::LIBRARY(&mut lent), vec![]);
-    for (part, lent) in parts.iter().zip(&lent) {
-        let altered = match part.is_written() {
-            true => !lent.guards_kept(),
-            false => !lent.kept(&part.bytes),
-        };
-        if altered && outcome.altered.is_none() {
-            outcome.altered = Some(part.altered());
-        }
-        if part.is_written() {
-            outcome.written.push(lent.bytes().to_vec());
-        }
-    }
-    outcome
-}
-
-static ASKING: AtomicBool = AtomicBool::new(false);
-
-/// Asks the original; a panic there is an answer here.
+/// Asks the original; a panic there is an answer here, and is not printed where it happens.
 pub fn ask<T>(question: impl FnOnce() -> T) -> Result<T, String> {
-    ASKING.store(true, Ordering::Relaxed);
+    let usual = take_hook();
+    set_hook(Box::new(|_| ()));
     let answer = catch_unwind(AssertUnwindSafe(question));
-    ASKING.store(false, Ordering::Relaxed);
+    set_hook(usual);
     answer.map_err(|said| {
-        let said = match said.downcast::<String>() {
-            Ok(text) => *text,
-            Err(said) => said.downcast::<&str>().map_or("?".into(), |s| s.to_string()),
-        };
-        format!("the original panics: {said}")
+        let text = said.downcast_ref::<String>().map(String::as_str);
+        let text = text.or(said.downcast_ref::<&str>().copied());
+        format!("the original panics: {}", text.unwrap_or("?"))
     })
-}
-
-/// Keeps the original's panics from being printed where they happen.
-pub fn quiet_panics() {
-    let usual = std::panic::take_hook();
-    std::panic::set_hook(Box::new(move |info| {
-        if !ASKING.load(Ordering::Relaxed) {
-            usual(info);
-        }
-    }));
 }

@@ -63,9 +63,8 @@ impl List {
     /// Fills what stands past the texts, which nobody reads.
     pub fn spoil_padding(&mut self, random: &mut Random) {
         for cell in &mut self.cells {
-            for at in 1 + text(cell).len()..CELL {
-                cell[at] = random.byte();
-            }
+            let from = 1 + text(cell).len();
+            records::spoil(random, cell, from);
         }
     }
 }
@@ -77,10 +76,7 @@ impl Shrink for Cell {
     fn smaller(&self) -> Vec<Cell> {
         let plain = [cell(b"t"), cell(b"ae")];
         let plainer = plain.into_iter().chain([cell(text(self))]);
-        match plain.contains(self) {
-            true => vec![],
-            false => plainer.filter(|plainer| plainer != self).collect(),
-        }
+        plainer.filter(|plainer| plainer != self && !plain.contains(self)).collect()
     }
 }
 

@@ -3,43 +3,27 @@
 use crate::prelude::*;
 use std::borrow::Cow;
 
-const GUARD: usize = 24;
-const GUARD_BYTE: u8 = 0xa5;
+const GUARD: [u8; 24] = [0xa5; 24];
 
 /// Lent bytes between two guards, so that a stray write shows.
-pub struct Lent {
-    room: Vec<u8>,
-}
+pub struct Lent(Vec<u8>);
 
 impl Lent {
     pub fn new(bytes: &[u8]) -> Lent {
-        let mut room = vec![GUARD_BYTE; GUARD];
-        room.extend_from_slice(bytes);
-        room.resize(bytes.len() + 2 * GUARD, GUARD_BYTE);
-        Lent { room }
+        Lent([&GUARD[..], bytes, &GUARD].concat())
     }
 
     pub fn bytes(&self) -> &[u8] {
-        &self.room[GUARD..self.room.len() - GUARD]
+        &self.0[GUARD.len()..self.0.len() - GUARD.len()]
     }
 
-    pub fn pointer(&mut self) -> *mut u8 {
-        self.room[GUARD..].as_mut_ptr()
+    pub fn bytes_mut(&mut self) -> &mut [u8] {
+        let end = self.0.len() - GUARD.len();
+        &mut self.0[GUARD.len()..end]
     }
 
-    pub fn len(&self) -> usize {
-        self.room.len() - 2 * GUARD
-    }
-
-    pub fn guards_kept(&self) -> bool {
-        let end = self.room.len() - GUARD;
-        let guards = [&self.room[..GUARD], &self.room[end..]];
-        guards.concat().iter().all(|b| *b == GUARD_BYTE)
-    }
-
-    /// Whether the bytes are these, and the guards whole.
-    pub fn kept(&self, was: &[u8]) -> bool {
-        self.bytes() == was && self.guards_kept()
+    fn guards_kept(&self) -> bool {
+        self.0.starts_with(&GUARD) && self.0.ends_with(&GUARD)
     }
 }
 
@@ -83,21 +67,33 @@ impl<'a> Part<'a> {
         matches!(self.used, Use::Output(_))
     }
 
-    /// The bytes as they are handed in, where an answer needs so many.
-    pub fn handed(&self, need: usize) -> Vec<u8> {
-        match &self.used {
-            Use::Output(room) => room.bytes(need),
-            _ => self.bytes.to_vec(),
-        }
-    }
-
-    /// What is told of a part that was altered though nothing may alter it.
-    pub fn altered(&self) -> String {
+    /// What was altered though nothing may alter it, if anything was.
+    pub fn altered(&self, lent: &Lent) -> Option<String> {
         match self.used {
-            Use::Read => self.name.into(),
-            _ => format!("bytes beside {}", self.name),
+            Use::Read if lent.bytes() != &self.bytes[..] => Some(self.name.into()),
+            _ => (!lent.guards_kept()).then(|| format!("bytes beside {}", self.name)),
         }
     }
+}
+
+/// What a call may write, as it is handed in, where an answer needs so many bytes of an output.
+pub fn handed(parts: &[Part], need: usize) -> Vec<Vec<u8>> {
+    let handed = |part: &Part| match &part.used {
+        Use::Read => None,
+        Use::Written => Some(part.bytes.to_vec()),
+        Use::Output(room) => Some(room.bytes(need)),
+    };
+    parts.iter().filter_map(handed).collect()
+}
+
+/// The bytes of every part, given those of the parts that are written.
+pub fn all_bytes<'a>(parts: &'a [Part], handed: &'a [Vec<u8>]) -> Vec<&'a [u8]> {
+    let mut handed = handed.iter();
+    let bytes = |part: &'a Part| match part.is_written() {
+        true => handed.next().expect("all that is written is handed in"),
+        false => &part.bytes[..],
+    };
+    parts.iter().map(bytes).collect()
 }
 
 /// How long an output is, beside what its answer needs.
@@ -109,7 +105,7 @@ pub enum Size {
 }
 
 /// An output: its length, and the bytes in it at first.
-#[derive(Clone, Copy)]
+#[derive(Clone, Copy, PartialEq)]
 pub struct Room {
     pub size: Size,
     pub fill: u8,
@@ -164,15 +160,13 @@ impl Shrink for Room {
     fn smaller(&self) -> Vec<Room> {
         let sizes = match self.size {
             Size::Exact => vec![],
-            Size::More(1) => vec![Size::Exact],
+            Size::More(1) | Size::Short(1) => vec![Size::Exact],
             Size::More(n) => vec![Size::Exact, Size::More(1), Size::More(n / 2)],
-            Size::Short(1) => vec![Size::Exact],
             Size::Short(n) => vec![Size::Exact, Size::Short(1), Size::Short(n / 2)],
         };
         let mut rooms = with(self, sizes, |room, size| room.size = size);
-        if self.step != 0 || self.fill != Room::PLAIN.fill {
-            rooms.push(Room { size: self.size, ..Room::PLAIN });
-        }
+        let plain = Room { size: self.size, ..Room::PLAIN };
+        rooms.extend((*self != plain).then_some(plain));
         rooms
     }
 }

@@ -3,11 +3,11 @@
 use crate::lexicons::{index, sections, Row, Sections};
 use crate::prelude::*;
 use crate::records::with_byte;
-use crate::tables::{self, phone_table};
+use crate::tables::{self, put};
 
 /// An entry of these parts.
-pub fn row(word: &str, tag: u8, numbers: &[u8]) -> Row {
-    Row { tag, word: word.into(), numbers: numbers.to_vec() }
+pub fn row(word: impl AsRef<[u8]>, tag: u8, numbers: &[u8]) -> Row {
+    Row { tag, word: word.as_ref().to_vec(), numbers: numbers.to_vec() }
 }
 
 /// Every lexicon of up to so many entries over two words and three tags, sorted or not, in which any
@@ -19,14 +19,16 @@ pub fn small(most: usize) -> Vec<Rc<Lexicon>> {
         let rows = rows.map(|(i, kind)| row(["a", "b"][kind % 2], b"0nvx"[kind / 2], &[i]));
         let mut sections = sections(&names, &rows.collect::<Vec<Row>>());
         for i in (0..kinds.len()).filter(|i| kinds[*i] == 6) {
-            let outside = [200, 0, 0, 0];
-            sections.index[4 + 4 * i..8 + 4 * i].copy_from_slice(&outside);
+            put(&mut sections.index, 4 + 4 * i, &[200, 0, 0, 0]);
         }
         Rc::new(Lexicon::new(sections))
     };
     let kinds = words::every(&[0, 1, 2, 3, 4, 5, 6], most);
     kinds.iter().map(made).collect()
 }
+
+/// The phones of the good lexicon.
+const NAMES: [&str; 3] = ["k", "ae1", "zz"];
 
 /// A small lexicon in good order.
 pub fn good() -> Sections {
@@ -37,7 +39,7 @@ pub fn good() -> Sections {
         row("b", b'n', &[2]),
         row("b", 200, &[1]),
     ];
-    sections(&["k", "ae1", "zz"], &rows)
+    sections(&NAMES, &rows)
 }
 
 /// A large lexicon in good order, every third word of which has two entries, and the same with its last
@@ -75,72 +77,46 @@ pub fn altered_bytes() -> Vec<Rc<Lexicon>> {
 
 /// Sections at 01's limits, and just past them.
 pub fn limits() -> Vec<Rc<Lexicon>> {
-    let mut all = vec![];
-    let mut add = |change: &dyn Fn(&mut Sections)| {
-        let mut sections = good();
-        change(&mut sections);
-        all.push(sections);
-    };
-    let entry = |tag: u8, word: &[u8], numbers: &[u8]| {
-        let (len, count) = (word.len() as u8, numbers.len() as u8);
-        [&[tag, len], word, &[count], numbers].concat()
-    };
-    let one = |s: &mut Sections, data: Vec<u8>| {
-        s.index = index(&[0]);
-        s.data = data;
-    };
-    add(&|_| {});
-    for table in tables::limits(&good().phones) {
-        add(&|s| s.phones = table.clone());
-    }
+    let good = good();
+    let mut all = vec![good.clone()];
+    all.extend(with(&good, tables::limits(&good.phones), |s, table| s.phones = table));
     // counts of the index: none, more than there are, and so many that a sum of 32 bits wraps
-    add(&|s| s.index = vec![]);
-    add(&|s| s.index = vec![0; 3]);
-    add(&|s| s.index = vec![0; 4]);
-    add(&|s| s.index = vec![0; 5]);
-    add(&|s| s.index = vec![1, 0, 0, 0]);
-    add(&|s| s.index = vec![1, 0, 0, 0, 0, 0, 0]);
-    add(&|s| s.index = vec![1, 0, 0, 0, 0, 0, 0, 0, 9]);
-    add(&|s| s.index = vec![0, 0, 0, 64, 0, 0, 0, 0]);
-    add(&|s| s.index = vec![255; 8]);
-    add(&|s| s.index = vec![1, 0, 0, 0, 255, 255, 255, 255]);
-    add(&|s| s.index = vec![1, 0, 0, 0, 254, 255, 255, 255]);
-    add(&|s| s.index[0] = 6);
-    add(&|s| s.index[0] = 4);
-    add(&|s| s.index.extend([255; 7]));
-    add(&|s| s.data = vec![]);
-    add(&|s| s.data.extend([1, 2, 3]));
-    // entries that share their bytes, or stand in each other's
-    add(&|s| s.index = index(&[0, 0, 0]));
-    add(&|s| s.index = index(&[0, 2]));
+    let counts = [&[][..], &[0; 3], &[0; 4], &[0; 5], &[0, 0, 0, 64, 0, 0, 0, 0], &[255; 8]];
+    all.extend(with(&good, counts, |s, index| s.index = index.to_vec()));
+    let behind_1 = [&[][..], &[0; 3], &[0, 0, 0, 0, 9], &[255; 4], &[254, 255, 255, 255]];
+    all.extend(with(&good, behind_1, |s, offset| s.index = [&[1, 0, 0, 0], offset].concat()));
+    let others: [fn(&mut Sections); 7] = [
+        |s| s.index[0] = 6,
+        |s| s.index[0] = 4,
+        |s| s.index.extend([255; 7]),
+        |s| s.data = vec![],
+        |s| s.data.extend([1, 2, 3]),
+        // entries that share their bytes, or stand in each other's
+        |s| s.index = index(&[0, 0, 0]),
+        |s| s.index = index(&[0, 2]),
+    ];
+    all.extend(with(&good, others, |s, change| change(s)));
+    all.extend(single_entries());
+    all.into_iter().map(Lexicon::new).map(Rc::new).collect()
+}
+
+/// Sections of one entry, which is at 01's limits or just past them.
+fn single_entries() -> Vec<Sections> {
+    let one = |tag: u8, word: &[u8], numbers: &[u8]| sections(&NAMES, &[row(word, tag, numbers)]);
     // the shortest entry, and one that is cut behind each of its parts
-    add(&|s| one(s, entry(b'n', b"", &[])));
-    for cut in 0..=7 {
-        add(&|s| one(s, entry(b'n', b"ab", &[0, 1])[..cut].to_vec()));
-    }
+    let mut all = vec![one(b'n', b"", &[])];
+    all.extend(with(&one(b'n', b"ab", &[0, 1]), 0..=7, |s, cut| s.data.truncate(cut)));
     // the longest word, with bytes at the limit; the longest list; the last number
-    add(&|s| one(s, entry(b'n', &[b'a'; 255], &[0])));
-    add(&|s| one(s, entry(b'n', &[b'a'; 48], &[0])));
-    add(&|s| one(s, entry(b'n', &[b'a'; 47], &[0])));
-    add(&|s| one(s, entry(0, &[127], &[0])));
-    add(&|s| one(s, entry(0, &[128], &[0])));
-    add(&|s| one(s, entry(0, &[0xc3, 0xa9], &[0])));
-    add(&|s| one(s, entry(255, b"a", &[0; 255])));
-    add(&|s| one(s, entry(128, b"a", &[2])));
-    add(&|s| one(s, entry(127, b"a", &[3])));
-    add(&|s| {
-        s.phones = phone_table(&["p"; 256]);
-        one(s, entry(b'n', b"a", &[255, 0, 128]));
-    });
-    add(&|s| {
-        s.phones = phone_table(&["p"; 255]);
-        one(s, entry(b'n', b"a", &[255]));
-    });
+    all.extend([255, 48, 47].map(|len| one(b'n', &vec![b'a'; len], &[0])));
+    all.extend([&[127][..], &[128], &[0xc3, 0xa9]].map(|word| one(0, word, &[0])));
+    let lists = [(255, &[0; 255][..]), (128, &[2]), (127, &[3])];
+    all.extend(lists.map(|(tag, numbers)| one(tag, b"a", numbers)));
+    all.push(sections(&["p"; 256], &[row("a", b'n', &[255, 0, 128])]));
+    all.push(sections(&["p"; 255], &[row("a", b'n', &[255])]));
     // lists about as long as an answer can be
     for count in [95, 96, 97, 98] {
-        add(&|s| one(s, entry(b'n', b"a", &vec![1; count])));
-        let last = [vec![1; count - 1], vec![3]].concat();
-        add(&|s| one(s, entry(b'n', b"a", &last)));
+        all.push(one(b'n', b"a", &vec![1; count]));
+        all.push(one(b'n', b"a", &[vec![1; count - 1], vec![3]].concat()));
     }
-    all.into_iter().map(Lexicon::new).map(Rc::new).collect()
+    all
 }

@@ -1,9 +1,10 @@
 //! Lexicons of many shapes, and ways to break them.
 
-use crate::lexicons::{entry_bytes, index, sections, Row, Sections};
+use crate::lexicon_edges::row;
+use crate::lexicons::{entry_bytes, index, sections, Compiled, Row, Sections};
 use crate::prelude::*;
 use crate::shrink::{parts, shorter, without};
-use crate::tables::{self, phone_table, put};
+use crate::tables::{self, first_fit, moved, phone_table, put};
 use original::lexicon::probe;
 use std::ops::Range;
 
@@ -21,7 +22,7 @@ pub fn whole(random: &mut Random, phones: &Phones) -> Shape {
 
 /// A whole lexicon of a size that a list can hold.
 pub fn to_record(random: &mut Random, phones: &Phones) -> Shape {
-    plan_below(random, phones, 60, usize::MAX, 2_000)
+    first_fit(|| plan(random, phones, 60), |shape| is_below(shape, usize::MAX, 2_000))
 }
 
 /// A whole lexicon of a few entries.
@@ -31,25 +32,13 @@ pub fn few(random: &mut Random, phones: &Phones) -> Shape {
 
 /// A whole lexicon of a few entries, so that a list can hold many of them.
 pub fn few_to_record(random: &mut Random, phones: &Phones) -> Shape {
-    plan_below(random, phones, 14, 400, 400)
+    first_fit(|| plan(random, phones, 14), |shape| is_below(shape, 400, 400))
 }
 
-/// A whole lexicon of at least five entries, whose phone table and data are shorter than this.
-fn plan_below(
-    random: &mut Random,
-    phones: &Phones,
-    most: usize,
-    table: usize,
-    data: usize,
-) -> Shape {
-    loop {
-        let shape = plan(random, phones, most);
-        let sections = &shape.lexicon.sections;
-        let fits = sections.phones.len() < table && sections.data.len() < data;
-        if fits && sections.index.len() > 20 {
-            return shape;
-        }
-    }
+/// Whether a lexicon has at least five entries, and a phone table and data that are shorter than this.
+fn is_below(shape: &Shape, table: usize, data: usize) -> bool {
+    let sections = &shape.lexicon.sections;
+    sections.index.len() > 20 && sections.phones.len() < table && sections.data.len() < data
 }
 
 /// A lexicon that only names phones.
@@ -62,10 +51,8 @@ fn plan(random: &mut Random, phones: &Phones, most: usize) -> Shape {
     let names = tables::names(random, |random| phones.phone(random));
     let alphabet = words::alphabet(random);
     let rows = rows(random, most, &alphabet, names.len());
-    let mut words: Vec<Vec<u8>> = vec![];
-    for _ in 0..30.min(rows.len()) {
-        words.push(rows[random.below(rows.len())].word.clone());
-    }
+    let word = |_| rows[random.below(rows.len())].word.clone();
+    let mut words: Vec<Vec<u8>> = (0..30.min(rows.len())).map(word).collect();
     for _ in 0..4 {
         words.push(random.pick(&addenda()).into());
         words.push(words::accepted(random, &alphabet));
@@ -87,11 +74,8 @@ fn rows(random: &mut Random, most: usize, alphabet: &[u8], names: usize) -> Vec<
     while rows.len() < count {
         let word = word(random, alphabet, &rows);
         for _ in 0..1 + random.weighted(&[6, 3, 2, 1]) {
-            rows.push(Row {
-                tag: tag(random),
-                word: word.clone(),
-                numbers: numbers(random, names),
-            });
+            let tag = tag(random);
+            rows.push(row(&word, tag, &numbers(random, names)));
         }
     }
     match random.below(8) {
@@ -142,20 +126,10 @@ fn tag(random: &mut Random) -> u8 {
 }
 
 fn numbers(random: &mut Random, names: usize) -> Vec<u8> {
-    let count = match random.weighted(&[3, 60, 6, 1, 1, 1]) {
-        _ if names == 0 => 0,
-        0 => 0,
-        1 => random.between(1, 6),
-        2 => random.between(7, 24),
-        3 => random.between(90, 100),
-        4 => random.between(95, 98),
-        _ => 255,
-    };
+    let counts = [(3, 0, 0), (60, 1, 6), (6, 7, 24), (1, 90, 100), (1, 95, 98), (1, 255, 255)];
+    let count = random.ranged(if names == 0 { &[(1, 0, 0)] } else { &counts });
     // now and then the last number
-    let number = |_| match random.once_in(20) {
-        true => names.min(256) - 1,
-        false => random.below(names),
-    };
+    let number = |_| if random.once_in(20) { names.min(256) - 1 } else { random.below(names) };
     (0..count).map(number).map(|n| n as u8).collect()
 }
 
@@ -201,10 +175,7 @@ fn break_one(random: &mut Random, sections: &mut Sections, lexicon: &Lexicon) {
     let names = lexicon.names.as_ref().map_or(0, Vec::len);
     let entries = lexicon.count();
     let entry = random.below(entries.max(1));
-    let offset = match &lexicon.offsets {
-        Some(offsets) if entries > 0 => offsets[entry],
-        _ => 0,
-    };
+    let offset = lexicon.offsets.iter().flatten().nth(entry).copied().unwrap_or(0);
     let Sections { phones, index, data } = sections;
     let len = data.len();
     match random.below(14) {
@@ -218,24 +189,19 @@ fn break_one(random: &mut Random, sections: &mut Sections, lexicon: &Lexicon) {
         3 | 4 => data.truncate(random.below(len + 1)),
         5 => data.clear(),
         6 | 7 => {
-            let far = u32::MAX as usize;
-            let outside = [len, len - 1.min(len), len + random.below(9), far];
+            let outside = [len, len - 1.min(len), len + random.below(9), u32::MAX as usize];
             let outside = outside[random.below(4)] as u32;
             put(index, 4 + 4 * entry, &outside.to_le_bytes());
         }
         8 => put(data, offset + 2, &[128 + random.below(128) as u8]),
         // a word or a list that is longer than it was
         9 => put(data, offset + 1, &[random.byte()]),
-        10 => {
-            if let Ok(entry) = lexicon.entry(entry) {
-                put(data, offset + 2 + entry.word.len(), &[random.byte()]);
-            }
-        }
-        11 => {
-            if let Ok(entry) = lexicon.entry(entry) {
-                let last = entry.numbers.len().saturating_sub(1);
-                let at = offset + 3 + entry.word.len() + random.between(0, last);
-                put(data, at, &[names as u8]);
+        way @ (10 | 11) => {
+            let Ok(Compiled { word, numbers, .. }) = lexicon.entry(entry) else { return };
+            let count = offset + 2 + word.len();
+            match way {
+                10 => put(data, count, &[random.byte()]),
+                _ => put(data, count + 1 + random.below(numbers.len().max(1)), &[names as u8]),
             }
         }
         _ => {
@@ -265,9 +231,8 @@ impl Shrink for Rc<Lexicon> {
             (Some(names), Some(offsets)) => {
                 let tables =
                     with(given, names.smaller(), |s, names| s.phones = phone_table(&names));
-                let rows: Result<Vec<Row>, _> =
-                    (0..self.count()).map(|i| self.entry(i).map(Row::from)).collect();
-                let fewer = match rows {
+                let read = |i| self.entry(i).map(|entry| row(entry.word, entry.tag, entry.numbers));
+                let fewer = match (0..self.count()).map(read).collect::<Result<Vec<Row>, _>>() {
                     Ok(rows) => fewer_rows(given, names, &rows),
                     Err(_) => fewer_bytes(given, offsets),
                 };
@@ -281,21 +246,15 @@ impl Shrink for Rc<Lexicon> {
 
 /// Entries left out or made plainer, and written one behind the other.
 fn fewer_rows(given: &Sections, names: &[Vec<u8>], rows: &Vec<Row>) -> Vec<Sections> {
-    let written = |rows: &Vec<Row>| sections(names, rows);
-    let plain = Some(written(rows)).filter(|plain| plain != given);
-    let fewer = rows.smaller();
-    plain.into_iter().chain(fewer.iter().map(written)).collect()
+    let all = [vec![rows.clone()], rows.smaller()].concat();
+    all.iter().map(|rows| sections(names, rows)).filter(|plainer| plainer != given).collect()
 }
 
 /// Offsets left out, or bytes, behind which the offsets move.
 fn fewer_bytes(given: &Sections, offsets: &[usize]) -> Vec<Sections> {
     let cut = |sections: &mut Sections, part: Range<usize>| {
-        let moved = |offset: &usize| match *offset {
-            offset if offset >= part.end => offset - part.len(),
-            offset if offset > part.start => part.start,
-            offset => offset,
-        };
-        sections.index = index(&offsets.iter().map(moved).collect::<Vec<usize>>());
+        let moved = offsets.iter().map(|offset| moved(*offset, &part));
+        sections.index = index(&moved.collect::<Vec<usize>>());
         sections.data = without(&given.data, &part);
     };
     let fewer = with(given, shorter(offsets), |s, offsets| s.index = index(&offsets));

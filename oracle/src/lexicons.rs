@@ -6,29 +6,20 @@ use crate::tables::{phone_names, phone_table};
 
 sections!("lex": data);
 
-/// A compiled entry before it is written.
-#[derive(Clone)]
-pub struct Row {
+/// The parts of a compiled entry.
+#[derive(Clone, Copy)]
+pub struct Parts<T> {
     pub tag: u8,
-    pub word: Vec<u8>,
-    pub numbers: Vec<u8>,
+    pub word: T,
+    pub numbers: T,
 }
+
+/// A compiled entry before it is written.
+pub type Row = Parts<Vec<u8>>;
+/// A compiled entry that is not damaged.
+pub type Compiled<'a> = Parts<&'a [u8]>;
 
 smaller!(Row: numbers, word);
-
-/// A compiled entry that is not damaged.
-#[derive(Clone, Copy)]
-pub struct Compiled<'a> {
-    pub tag: u8,
-    pub word: &'a [u8],
-    pub numbers: &'a [u8],
-}
-
-impl From<Compiled<'_>> for Row {
-    fn from(entry: Compiled) -> Row {
-        Row { tag: entry.tag, word: entry.word.to_vec(), numbers: entry.numbers.to_vec() }
-    }
-}
 
 /// Why an entry is damaged: the rows of the table that count it.
 pub const DAMAGE: &[&str] = &[
@@ -103,41 +94,33 @@ impl Lexicon {
     /// Entry i, or why it is damaged.
     pub fn entry(&self, i: usize) -> Result<Compiled<'_>, &'static str> {
         let offset = self.offsets.as_ref().and_then(|all| all.get(i));
-        let rest = offset.and_then(|offset| self.sections.data.get(*offset..));
-        let rest = rest.unwrap_or_default();
+        let rest = offset.and_then(|offset| self.sections.data.get(*offset..)).unwrap_or_default();
         let tag = *rest.first().ok_or(DAMAGE[0])?;
         let len = usize::from(*rest.get(1).ok_or(DAMAGE[1])?);
         let word = rest.get(2..2 + len).ok_or(DAMAGE[2])?;
         let count = usize::from(*rest.get(2 + len).ok_or(DAMAGE[3])?);
         let numbers = rest.get(3 + len..3 + len + count).ok_or(DAMAGE[4])?;
-        match word.is_ascii() {
-            true => Ok(Compiled { tag, word, numbers }),
-            false => Err(DAMAGE[5]),
-        }
+        word.is_ascii().then_some(Compiled { tag, word, numbers }).ok_or(DAMAGE[5])
     }
 
     /// Entry i with a phone for each of its numbers, or what is amiss.
     pub fn whole(&self, i: usize) -> Result<Compiled<'_>, &'static str> {
         let entry = self.entry(i)?;
         let names = self.names.as_ref().map_or(0, Vec::len);
-        match entry.numbers.iter().all(|n| usize::from(*n) < names) {
-            true => Ok(entry),
-            false => Err(DAMAGE[6]),
-        }
+        let has_phones = entry.numbers.iter().all(|n| usize::from(*n) < names);
+        has_phones.then_some(entry).ok_or(DAMAGE[6])
     }
 
     /// The phones of entry i, which is whole.
     pub fn phones(&self, i: usize) -> Vec<Vec<u8>> {
         let names = self.names.as_ref().expect("the table has its form");
         let entry = self.whole(i).expect("the entry is whole");
-        let phone = |n: &u8| names[usize::from(*n)].clone();
-        entry.numbers.iter().map(phone).collect()
+        entry.numbers.iter().map(|n| names[usize::from(*n)].clone()).collect()
     }
 
     /// Whether a phone may be added: it is in lex.phones, or one of the 50.
     pub fn knows(&self, phone: &[u8]) -> bool {
-        let in_table = |names: &Vec<Vec<u8>>| names.iter().any(|name| name == phone);
-        self.names.as_ref().is_some_and(in_table) || is_of_the_50(phone)
+        self.names.iter().flatten().any(|name| name == phone) || is_of_the_50(phone)
     }
 
     /// 01's search for a word and a wanted tag.
@@ -213,11 +196,8 @@ pub fn index(offsets: &[usize]) -> Vec<u8> {
 
 /// The bytes of an entry.
 pub fn entry_bytes(row: &Row) -> Vec<u8> {
-    let mut bytes = vec![row.tag, row.word.len() as u8];
-    bytes.extend_from_slice(&row.word);
-    bytes.push(row.numbers.len() as u8);
-    bytes.extend_from_slice(&row.numbers);
-    bytes
+    let (len, count) = (row.word.len() as u8, row.numbers.len() as u8);
+    [&[row.tag, len], &row.word[..], &[count], &row.numbers].concat()
 }
 
 /// Sections of these phones and entries, one entry behind the other.

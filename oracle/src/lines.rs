@@ -50,23 +50,20 @@ pub fn read(line: &[u8]) -> Line<'_> {
 
 /// The parts between blanks.
 fn fields(text: &[u8]) -> Vec<&[u8]> {
-    let parts = text.split(is_blank);
-    parts.filter(|part| !part.is_empty()).collect()
+    text.split(is_blank).filter(|part| !part.is_empty()).collect()
 }
 
 /// A field without the quote marks at its ends.
-fn unquoted(field: &[u8]) -> &[u8] {
-    let Some(from) = field.iter().position(|b| *b != b'"') else {
-        return &[];
-    };
-    let to = field.iter().rposition(|b| *b != b'"').unwrap_or(from);
-    &field[from..=to]
+fn unquoted(mut field: &[u8]) -> &[u8] {
+    while let [b'"', rest @ ..] | [rest @ .., b'"'] = field {
+        field = rest;
+    }
+    field
 }
 
 /// Texts with lines left out, or bytes, for shrinking.
 pub fn shorter(text: &[u8]) -> Vec<Vec<u8>> {
     let lines: Vec<&[u8]> = text.split_inclusive(|b| *b == b'\n').collect();
-    let fewer = shrink::shorter(&lines).into_iter();
-    let fewer = fewer.map(|lines| lines.concat());
+    let fewer = shrink::shorter(&lines).into_iter().map(|lines| lines.concat());
     fewer.chain(shrink::shorter(text)).collect()
 }

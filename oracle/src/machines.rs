@@ -12,7 +12,8 @@ pub struct Machines {
     /// aswd.p and aswd.s
     pub sections: [Vec<u8>; 2],
     pub alphabet: Vec<u8>,
-    original: Option<Held<Sayable>>,
+    /// None if a section breaks 01's form.
+    pub original: Option<Held<Sayable>>,
 }
 
 impl Machines {
@@ -22,39 +23,23 @@ impl Machines {
         Machines { sections, alphabet, original }
     }
 
-    pub fn parts(&self) -> [Part<'_>; 2] {
-        parts(&self.sections)
-    }
-
-    /// Whether both sections have 01's form.
-    pub fn has_form(&self) -> bool {
-        self.original.is_some()
-    }
-
-    /// The original's reading of sections that have their form.
-    pub fn original(&self) -> &Sayable {
-        let held = self.original.as_ref();
-        &held.expect("only sections of 01's form are read").reader
-    }
-
-    /// The cells of a section: 0 is the prefix, 1 the suffix.
-    pub fn cells(&self, side: usize) -> Vec<u16> {
-        let cells = self.sections[side][HEAD..].chunks_exact(2);
-        cells.map(|c| u16::from_le_bytes([c[0], c[1]])).collect()
+    /// The cells of both sections.
+    pub fn cells(&self) -> [Vec<u16>; 2] {
+        let cells = self.sections.each_ref().map(|section| section[HEAD..].chunks_exact(2));
+        cells.map(|cells| cells.map(|c| u16::from_le_bytes([c[0], c[1]])).collect())
     }
 }
 
-fn parts([prefix, suffix]: &[Vec<u8>; 2]) -> [Part<'_>; 2] {
+pub fn parts([prefix, suffix]: &[Vec<u8>; 2]) -> [Part<'_>; 2] {
     [Part::read("aswd.p", Form::Bytes, prefix), Part::read("aswd.s", Form::Bytes, suffix)]
 }
 
 impl Shrink for Rc<Machines> {
     fn smaller(&self) -> Vec<Rc<Machines>> {
-        let [prefix, suffix] = &self.sections;
-        let prefixes = with(&self.sections, prefix.smaller(), |s, prefix| s[0] = prefix);
-        let suffixes = with(&self.sections, suffix.smaller(), |s, suffix| s[1] = suffix);
+        let given = &self.sections;
+        let smaller = |side: usize| with(given, given[side].smaller(), |s, less| s[side] = less);
         let made = |sections| Rc::new(Machines::new(sections, vec![]));
-        prefixes.into_iter().chain(suffixes).map(made).collect()
+        [0, 1].map(smaller).concat().into_iter().map(made).collect()
     }
 }
 
@@ -69,80 +54,58 @@ pub fn cell(symbol: u8, state: usize) -> u16 {
     (state * 128) as u16 + u16::from(symbol)
 }
 
-/// What a byte of a folded word is to the machines.
+/// What a byte of a word, folded, is to the machines.
 fn symbol(byte: u8) -> u8 {
-    match byte {
+    match byte.to_ascii_lowercase() {
         b'n' | b'm' => b'N',
         b'a' | b'e' | b'i' | b'o' | b'u' | b'y' => b'V',
         other => other,
     }
 }
 
-/// A step out of a state.
+/// What ends a list of steps in which none is on a symbol.
 #[derive(PartialEq)]
-pub enum Step {
-    To(usize),
-    /// A zero ends the list of steps.
-    AtZero,
-    /// The section ends it.
-    AtEnd,
+pub enum End {
+    Zero,
+    Section,
 }
 
-/// How far the letters of a word lead.
-#[derive(PartialEq)]
-pub enum Walk {
-    /// To a vowel, with so many letters before it.
-    Vowel(usize),
-    NoVowel,
-    AtZero,
-    AtEnd,
-}
-
-/// 01's step, to tell which way an input goes; the original alone tells the answer.
-pub fn step(cells: &[u16], state: usize, symbol: u8) -> Step {
-    for cell in cells.iter().skip(state) {
-        if *cell == 0 {
-            return Step::AtZero;
-        }
-        if cell % 128 == u16::from(symbol) {
-            return Step::To(usize::from(cell / 128));
-        }
+/// The state to which 01's step leads, to tell which way an input goes; the original alone tells the answer.
+pub fn step(cells: &[u16], state: usize, symbol: u8) -> Result<usize, End> {
+    let ends = |cell: &&u16| **cell == 0 || **cell % 128 == u16::from(symbol);
+    match cells.iter().skip(state).find(ends) {
+        Some(0) => Err(End::Zero),
+        Some(cell) => Ok(usize::from(cell / 128)),
+        None => Err(End::Section),
     }
-    Step::AtEnd
 }
 
-pub fn walk<'a>(cells: &[u16], start: usize, letters: impl Iterator<Item = &'a u8>) -> Walk {
+/// Goes along letters up to a vowel: how many stand before it, none if there is no vowel, or what ended the steps.
+pub fn walk(cells: &[u16], start: usize, letters: &[u8]) -> Result<Option<usize>, End> {
     let mut state = start;
-    for (i, letter) in letters.enumerate() {
-        match step(cells, state, symbol(*letter)) {
-            Step::To(next) => state = next,
-            Step::AtZero => return Walk::AtZero,
-            Step::AtEnd => return Walk::AtEnd,
-        }
+    for (i, letter) in letters.iter().enumerate() {
+        state = step(cells, state, symbol(*letter))?;
         if symbol(*letter) == b'V' {
-            return Walk::Vowel(i);
+            return Ok(Some(i));
         }
     }
-    Walk::NoVowel
+    Ok(None)
 }
 
 /// Any machines; a few break their form, or have an odd byte at the end.
 pub fn random(random: &mut Random) -> Machines {
-    let mut machines = plan(random);
-    for section in &mut machines.0 {
+    let (mut sections, alphabet) = plan(random);
+    for section in &mut sections {
         match random.below(30) {
             0 => section.truncate(random.below(HEAD)),
             1 => section.truncate(HEAD),
             2 => section.truncate(HEAD + 1),
-            3 => {
-                let len = random.between(HEAD.min(section.len()), section.len());
-                section.truncate(len);
-            }
+            3 => section.truncate(random.between(HEAD.min(section.len()), section.len())),
             4..=7 => section.push(random.byte()),
             _ => {}
         }
     }
-    Machines::new(machines.0, machines.1)
+    Machines::new(sections, alphabet)
 }
 
 /// Machines of a size that a list can hold.
@@ -156,28 +119,22 @@ pub fn to_record(random: &mut Random) -> Machines {
 
 fn plan(random: &mut Random) -> ([Vec<u8>; 2], Vec<u8>) {
     let alphabet = words::alphabet(random);
-    let (prefix, suffix) = match random.below(4) {
-        0 => (noise(random, &alphabet), noise(random, &alphabet)),
+    let pair = match random.below(4) {
+        0 => [(); 2].map(|()| noise(random, &alphabet)),
         _ => pair(random, &alphabet),
     };
-    let mut head = || random.bytes(HEAD);
-    let sections = [section(&head(), &prefix), section(&head(), &suffix)];
-    (sections, alphabet)
+    (pair.map(|cells| section(&random.bytes(HEAD), &cells)), alphabet)
 }
 
 /// Cells without a plan: symbols of the alphabet, states inside and past the end, zeros between.
 fn noise(random: &mut Random, alphabet: &[u8]) -> Vec<u16> {
     let count = random.between(0, 60);
-    let mut cells: Vec<u16> = (0..count)
-        .map(|_| match random.weighted(&[8, 2, 1]) {
-            0 => {
-                let byte = random.pick_byte(alphabet).to_ascii_lowercase() & 127;
-                cell(symbol(byte), random.below(count + 4).min(511))
-            }
-            1 => 0,
-            _ => random.below(65_536) as u16,
-        })
-        .collect();
+    let any = |_| match random.weighted(&[8, 2, 1]) {
+        0 => cell(symbol(random.pick_byte(alphabet)), random.below(count + 4).min(511)),
+        1 => 0,
+        _ => random.below(65_536) as u16,
+    };
+    let mut cells: Vec<u16> = (0..count).map(any).collect();
     if count > 0 && random.once_in(2) {
         cells[0] = cell(b'#', random.below(count));
     }
@@ -185,29 +142,24 @@ fn noise(random: &mut Random, alphabet: &[u8]) -> Vec<u16> {
 }
 
 /// Two machines with lists of steps, ended by zeros, that both start from one state.
-fn pair(random: &mut Random, alphabet: &[u8]) -> (Vec<u16>, Vec<u16>) {
+fn pair(random: &mut Random, alphabet: &[u8]) -> [Vec<u16>; 2] {
     // the first list holds the step on "#", behind others
     let others = random.below(3);
     let start = others + 2;
-    let mut prefix: Vec<u16> = (0..others).map(|_| cell(b'q', 0)).collect();
-    prefix.push(cell(b'#', start));
-    prefix.push(0);
-    let mut suffix = vec![0; start];
-    lists(random, alphabet, &mut prefix);
-    lists(random, alphabet, &mut suffix);
-    (prefix, suffix)
+    let prefix = [vec![cell(b'q', 0); others], vec![cell(b'#', start), 0]].concat();
+    [prefix, vec![0; start]].map(|front| lists(random, alphabet, front))
 }
 
 /// Lists of steps behind what is there; most have a vowel, and their states are the lists' starts.
-fn lists(random: &mut Random, alphabet: &[u8], cells: &mut Vec<u16>) {
+fn lists(random: &mut Random, alphabet: &[u8], mut cells: Vec<u16>) -> Vec<u16> {
     let count = random.between(1, 6);
     let width = random.between(1, 24);
     let first = cells.len();
     for _ in 0..count {
         for i in 0..width {
             let vowel = i == 0 && !random.once_in(6);
-            let byte = random.pick_byte(alphabet).to_ascii_lowercase();
-            let symbol = if vowel { b'V' } else { symbol(byte) };
+            let symbol = symbol(random.pick_byte(alphabet));
+            let symbol = if vowel { b'V' } else { symbol };
             let to = first + (width + 1) * random.below(count);
             // one in thirty leads past the end
             let to = if random.once_in(30) { 511 } else { to };
@@ -215,4 +167,5 @@ fn lists(random: &mut Random, alphabet: &[u8], cells: &mut Vec<u16>) {
         }
         cells.push(0);
     }
+    cells
 }

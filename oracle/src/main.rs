@@ -1,8 +1,6 @@
 //! Compares the proved library with the original Rust, call by call; see README.md.
 
 #[macro_use]
-mod each;
-#[macro_use]
 mod rows;
 #[macro_use]
 mod shrink;
@@ -50,36 +48,24 @@ const DIFFERENT: u8 = 1;
 const MISUSED: u8 = 2;
 const NOT_MET: u8 = 3;
 
-struct Arguments {
-    limit: Limit,
-    seed: u64,
-    record: Option<String>,
-    count: usize,
-}
-
 fn main() -> ExitCode {
-    let Some(arguments) = arguments() else {
+    let Some((limit, seed, record, count)) = arguments() else {
         eprintln!("{USAGE}");
         return ExitCode::from(MISUSED);
     };
-    call::quiet_panics();
-    let seed = arguments.seed;
     let mut calls = calls::all(seed);
-    if let Limit::Lists(_) = arguments.limit {
+    if let Limit::Lists(_) = limit {
         // nothing else then
         calls.drain(..calls.len() - 1);
     }
-    if let Some(folder) = &arguments.record {
-        return match record::write(&calls, folder, seed, arguments.count) {
-            Ok(()) => ExitCode::SUCCESS,
-            Err(error) => {
-                eprintln!("{folder}: {error}");
-                ExitCode::from(MISUSED)
-            }
-        };
+    if let Some(folder) = record {
+        let written = record::write(&calls, &folder, seed, count);
+        let Err(error) = written else { return ExitCode::SUCCESS };
+        eprintln!("{folder}: {error}");
+        return ExitCode::from(MISUSED);
     }
     println!("seed {seed}");
-    if let Err(difference) = run::run(&mut calls, arguments.limit) {
+    if let Err(difference) = run::run(&mut calls, limit) {
         println!("{difference}");
         return ExitCode::from(DIFFERENT);
     }
@@ -90,21 +76,20 @@ fn main() -> ExitCode {
 }
 
 /// What the command line says; none if it says anything else.
-fn arguments() -> Option<Arguments> {
-    let mut found =
-        Arguments { limit: Limit::Calls(1_000_000), seed: 1, record: None, count: 2_500 };
+fn arguments() -> Option<(Limit, u64, Option<String>, usize)> {
+    let (mut limit, mut seed, mut record, mut count) = (Limit::Calls(1_000_000), 1, None, 2_500);
     let mut words = std::env::args().skip(1);
     while let Some(word) = words.next() {
         let value = words.next()?;
         match word.as_str() {
-            "--calls" => found.limit = Limit::Calls(value.parse().ok()?),
-            "--seconds" => found.limit = Limit::Seconds(value.parse().ok()?),
-            "--lists" => found.limit = Limit::Lists(value.parse().ok()?),
-            "--seed" => found.seed = value.parse().ok()?,
-            "--record" => found.record = Some(value),
-            "--count" => found.count = value.parse().ok()?,
+            "--calls" => limit = Limit::Calls(value.parse().ok()?),
+            "--seconds" => limit = Limit::Seconds(value.parse().ok()?),
+            "--lists" => limit = Limit::Lists(value.parse().ok()?),
+            "--seed" => seed = value.parse().ok()?,
+            "--record" => record = Some(value),
+            "--count" => count = value.parse().ok()?,
             _ => return None,
         }
     }
-    Some(found)
+    Some((limit, seed, record, count))
 }

@@ -51,8 +51,9 @@ macro_rules! library {
             let [$($slice),*] = lent else {
                 panic!("{} takes other slices", stringify!($name))
             };
+            $(let $slice = $slice.bytes_mut();)*
             // SAFETY: each pointer and length is a whole slice that nothing else refers to.
-            unsafe { $function($($slice.pointer(), $slice.len()),*) }
+            unsafe { $function($($slice.as_mut_ptr(), $slice.len()),*) }
         })*
     };
 }

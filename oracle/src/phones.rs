@@ -33,14 +33,10 @@ impl Phones {
     pub fn phone(&self, random: &mut Random) -> Vec<u8> {
         match random.weighted(&[6, 3, 2, 1]) {
             0 => random.pick(&self.names).into(),
-            1 => [random.pick(&self.names), random.pick(&["0", "1", "2", "00", "11"])]
-                .concat()
+            1 => (random.pick(&self.names).to_string() + random.pick(&["0", "1", "2", "00", "11"]))
                 .into(),
             2 => random.pick(&odd()).into(),
-            _ => {
-                let len = random.between(0, 15);
-                (0..len).map(|_| random.below(128) as u8).collect()
-            }
+            _ => (0..random.between(0, 15)).map(|_| random.below(128) as u8).collect(),
         }
     }
 
@@ -49,34 +45,22 @@ impl Phones {
         let ascii: Vec<u8> = (0..128).collect();
         let mut phones = words::every(&ascii, 2);
         for name in &self.names {
-            for digit in b'0'..=b'9' {
-                phones.push([name.as_bytes(), &[digit]].concat());
-            }
-            for more in ["", "00", "01", "10", "11", "12", "x", "-", " ", "\0"] {
-                phones.push([name, more].concat().into());
-            }
-            phones.push(name.to_uppercase().into());
-            phones.push(name.as_bytes()[1..].to_vec());
-            phones.push([&b"x"[..], name.as_bytes()].concat());
+            let ends = "0,1,2,3,4,5,6,7,8,9,,00,01,10,11,12,x,-, ,\0".split(',');
+            phones.extend(ends.map(|end| [name, end].concat().into()));
+            let near = [name.to_uppercase(), name[1..].to_string(), format!("x{name}")];
+            phones.extend(near.map(Vec::from));
         }
         phones.extend(odd().into_iter().map(Vec::from));
-        for len in 0..=15 {
-            phones.push(vec![b'0'; len]);
-            phones.push(vec![b'1'; len]);
-            phones.push(vec![b'a'; len]);
-        }
+        phones.extend((0..=15).flat_map(|len| b"01a".map(|byte| vec![byte; len])));
         phones
     }
 
     /// Phones for the list: the names, with and without a stress, then others.
     pub fn to_record(&self, random: &mut Random, cases: usize) -> Vec<Vec<u8>> {
-        let mut phones: Vec<Vec<u8>> = vec![];
-        phones.extend(self.names.iter().map(|name| name.as_bytes().to_vec()));
-        phones.extend(odd().into_iter().map(Vec::from));
-        phones.extend(["ax11", "0", "1", "00", "2", "ax10"].map(|phone| phone.into()));
-        for (i, name) in self.names.iter().enumerate() {
-            phones.push([name, ["0", "1", "1", "2"][i % 4]].concat().into());
-        }
+        let plain = [&self.names[..], &odd(), &["ax11", "0", "1", "00", "2", "ax10"]].concat();
+        let mut phones: Vec<Vec<u8>> = plain.into_iter().map(Vec::from).collect();
+        let stressed = self.names.iter().zip(["0", "1", "1", "2"].iter().cycle());
+        phones.extend(stressed.map(|(name, stress)| [*name, stress].concat().into()));
         while phones.len() < cases {
             phones.push(self.phone(random));
         }
@@ -94,15 +78,12 @@ impl Phones {
                 _ if kind == 1 => list.push(random.pick(&self.vowels).into()),
                 0 => list.push(random.pick(&self.vowels).into()),
                 1 => list.push(random.pick(&self.consonants).into()),
-                2 => {
-                    let onset = random.pick(self.onsets).as_bytes().to_vec();
+                way @ (2 | 3) => {
+                    let mut onset = Vec::from(random.pick(self.onsets));
+                    if way == 3 {
+                        near_miss(random, &mut onset);
+                    }
                     list.extend(cut(random, &onset));
-                    list.push(random.pick(&self.vowels).into());
-                }
-                3 => {
-                    let onset = random.pick(self.onsets).as_bytes().to_vec();
-                    let near = near_miss(random, onset);
-                    list.extend(cut(random, &near));
                     list.push(random.pick(&self.vowels).into());
                 }
                 4 => list.push(b"ng".to_vec()),
@@ -132,9 +113,8 @@ fn cut(random: &mut Random, text: &[u8]) -> Vec<Vec<u8>> {
     }
 }
 
-/// A text with a letter more, less, another one or two swapped.
-fn near_miss(random: &mut Random, text: Vec<u8>) -> Vec<u8> {
-    let mut text = text;
+/// Makes a text one with a letter more, less, another one or two swapped.
+fn near_miss(random: &mut Random, text: &mut Vec<u8>) {
     let at = random.below(text.len());
     let letter = random.pick_byte(b"sptkrlwyhfnmgbdvz0");
     match random.below(4) {
@@ -143,5 +123,4 @@ fn near_miss(random: &mut Random, text: Vec<u8>) -> Vec<u8> {
         2 => drop(text.remove(at)),
         _ => text.swap(at, 0),
     }
-    text
 }

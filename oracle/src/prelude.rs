@@ -1,9 +1,9 @@
 //! What calls and the shapes of their inputs are written with.
 
-pub(crate) use crate::call::{ask, handed, row_of, Call, Outcome, Rows, Ruling, Stop, Table, Told};
-pub(crate) use crate::call::{OUTPUT, OUTPUT_OR_NONE, TOO_SHORT};
+pub(crate) use crate::call::{ask, row_of, Call, Expected, Outcome, Rows, Table};
+pub(crate) use crate::call::{Ruling, Stop, Told, OUTPUT, OUTPUT_OR_NONE, TOO_SHORT};
 pub(crate) use crate::cells::{self, cell, cells, is_high, is_over, text, Cell, List, CELL};
-pub(crate) use crate::lent::{Part, Room, Size};
+pub(crate) use crate::lent::{all_bytes, handed, Part, Room, Size};
 pub(crate) use crate::lexicons::Lexicon;
 pub(crate) use crate::notation::{self, Form};
 pub(crate) use crate::ours::{self, Answer, Function};

@@ -58,14 +58,9 @@ impl Random {
 
     /// An index, each as often as its weight says.
     pub fn weighted(&mut self, weights: &[usize]) -> usize {
-        let mut left = self.below(weights.iter().sum());
-        for (i, weight) in weights.iter().enumerate() {
-            if left < *weight {
-                return i;
-            }
-            left -= weight;
-        }
-        unreachable!("the number is below the sum of the weights")
+        let at = self.below(weights.iter().sum());
+        let ends = (1..=weights.len()).map(|n| weights[..n].iter().sum::<usize>());
+        ends.take_while(|end| *end <= at).count()
     }
 
     /// A number from one of some ranges, both ends among them, each range as often as its weight says.
@@ -103,8 +98,7 @@ impl<T> Served<T> {
     pub fn next(&mut self, make: impl FnOnce() -> (T, usize)) -> &mut T {
         if self.left == 0 {
             let (made, left) = make();
-            self.now = Some(made);
-            self.left = left;
+            *self = Served { now: Some(made), left };
         }
         self.left -= 1;
         self.now()

@@ -1,8 +1,8 @@
 //! The recorded list: cases with the original's answers, for a program that has no Rust at hand.
 
-use crate::call::Expected;
 use crate::prelude::*;
 use crate::run::Compared;
+use crate::tally::Tally;
 use std::collections::BTreeMap;
 use std::io;
 
@@ -20,15 +20,11 @@ pub fn write(calls: &[Box<dyn Compared>], folder: &str, seed: u64, count: usize)
     let command = format!("# Made by: oracle/run --record FOLDER --count {count} --seed {seed}");
     let head = format!("{HEAD}\n{command}\n\n");
     std::fs::create_dir_all(folder)?;
-    for call in calls {
-        let share = call.tally().share_recorded;
-        let lines = call.record((count * share).div_ceil(shares));
-        if lines.is_empty() {
-            continue;
-        }
-        for (number, text) in parts(&head, &lines).iter().enumerate() {
-            let name = format!("{folder}/{}-{}.txt", call.tally().name, number + 1);
-            std::fs::write(name, text)?;
+    for call in calls.iter().filter(|call| call.tally().share_recorded > 0) {
+        let Tally { name, share_recorded, .. } = call.tally();
+        let lines = call.record(seed, (count * share_recorded).div_ceil(shares));
+        for (number, text) in (1..).zip(parts(&head, &lines)) {
+            std::fs::write(format!("{folder}/{name}-{number}.txt"), text)?;
         }
     }
     Ok(())
@@ -36,24 +32,18 @@ pub fn write(calls: &[Box<dyn Compared>], folder: &str, seed: u64, count: usize)
 
 /// Cases dealt among files, each with the head and the registers that its first case needs.
 fn parts(head: &str, lines: &[String]) -> Vec<String> {
-    let mut files = Vec::new();
-    let mut registers: BTreeMap<String, &String> = BTreeMap::new();
-    let mut text = head.to_string();
-    for line in lines {
-        if text.len() + line.len() + 1 > FILE_BYTES {
-            files.push(std::mem::replace(&mut text, head.to_string()));
-            for register in registers.values() {
-                text += register.as_str();
-                text.push('\n');
-            }
+    let mut files = vec![head.to_string()];
+    let mut registers = BTreeMap::new();
+    for line in lines.iter().map(|line| format!("{line}\n")) {
+        if files[files.len() - 1].len() + line.len() > FILE_BYTES {
+            let registers: String = registers.values().map(String::as_str).collect();
+            files.push(format!("{head}{registers}"));
         }
+        *files.last_mut().expect("there is a file") += &line;
         if line.starts_with('$') {
             registers.insert(line[..2].to_string(), line);
         }
-        text += line;
-        text.push('\n');
     }
-    files.push(text);
     files
 }
 
@@ -70,8 +60,7 @@ pub fn registers(first: usize, parts: &[Part]) -> Vec<String> {
 
 /// The names of these registers.
 pub fn named(registers: impl IntoIterator<Item = usize>) -> Vec<String> {
-    let registers = registers.into_iter();
-    registers.map(|number| format!("${number}")).collect()
+    registers.into_iter().map(|number| format!("${number}")).collect()
 }
 
 /// A case up to what the call wrote: the call, whose first parts stand in `front`, and what the original answers.
@@ -80,10 +69,8 @@ pub fn case<C: Call>(call: &C, input: &C::Input, front: &[String]) -> (String, E
     let shown = notation::line(C::NAME, &call.lent(input), &expected.handed, front);
     let outcome = expected.outcome.as_ref().expect("the original answers");
     let Answer { refusal, kind, value, .. } = outcome.answer;
-    assert!(
-        expected.asked && (refusal == 0 || C::ERRORS.contains(&refusal)),
-        "only what the original answers is recorded"
-    );
+    let answered = expected.asked && (refusal == 0 || C::ERRORS.contains(&refusal));
+    assert!(answered, "only what the original answers is recorded");
     (format!("{shown} -> {refusal} {kind} {value}"), expected)
 }
 

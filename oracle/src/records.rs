@@ -1,7 +1,7 @@
 //! What stores and sheets share: records of one size, which link to each other by their numbers, in lent bytes.
 
 use crate::random::Random;
-use crate::shrink::{parts, shorter};
+use crate::shrink::{parts, shorter, with};
 
 pub fn zeros(bytes: &[u8]) -> bool {
     bytes.iter().all(|b| *b == 0)
@@ -48,26 +48,17 @@ pub fn resized(bytes: &[u8], len: usize) -> Vec<u8> {
 
 /// Bytes with one of them altered: each to some values, or where no field stands to the lowest of these.
 pub fn altered(good: &[u8], size: usize, last_field: usize, values: &[u8]) -> Vec<Vec<u8>> {
-    let mut all = vec![];
-    for (at, byte) in good.iter().enumerate() {
-        let near = [byte ^ 1, byte.wrapping_add(1)];
-        for value in values.iter().chain(&near) {
-            if value == byte || at % size > last_field && *value > 2 {
-                continue;
-            }
-            all.push(with_byte(good, at, *value));
-        }
+    each! {
+        for (at, byte) in good.iter().enumerate();
+        let all = [values, &[byte ^ 1, byte.wrapping_add(1)]].concat();
+        let is_field = at % size <= last_field;
+        let others = all.into_iter().filter(|value| value != byte && (is_field || *value <= 2));
+        others.map(|value| with_byte(good, at, value))
     }
-    all
 }
 
 /// An unused record in the place of a used one, whose bytes it gets; the links stand at these places.
-pub fn in_place_of(
-    bytes: &mut [u8],
-    size: usize,
-    [used, unused]: [usize; 2],
-    links: impl Iterator<Item = usize>,
-) {
+pub fn in_place_of(bytes: &mut [u8], size: usize, [used, unused]: [usize; 2], links: Vec<usize>) {
     bytes.copy_within(size * used..size * (used + 1), size * unused);
     for at in links {
         if number(&bytes[at..]) == used {
@@ -94,16 +85,10 @@ pub fn less_behind(bytes: &[u8], from: usize, lengths: &[usize]) -> Vec<Vec<u8>>
 pub fn plainer(bytes: &[u8], size: usize, records: usize) -> Vec<Vec<u8>> {
     let mut all = shorter(bytes);
     all.truncate(64);
-    for records in 0..bytes.len() / size {
-        all.push(bytes[..size * records].to_vec());
-    }
+    all.extend((0..bytes.len() / size).map(|records| bytes[..size * records].to_vec()));
     let single = (0..bytes.len().min(size * records)).map(|at| at..at + 1);
-    for part in parts(bytes.len()).into_iter().chain(single) {
-        if !zeros(&bytes[part.clone()]) {
-            let mut bytes = bytes.to_vec();
-            bytes[part].fill(0);
-            all.push(bytes);
-        }
-    }
+    let every = parts(bytes.len()).into_iter().chain(single);
+    let others = every.filter(|part| !zeros(&bytes[part.clone()]));
+    all.extend(with(&bytes.to_vec(), others, |bytes, part| bytes[part].fill(0)));
     all
 }

@@ -97,9 +97,8 @@ impl Met {
 
     /// All of them, in a table of these rows.
     pub fn counted(self, table: &[&[&[&str]]]) -> Vec<&'static str> {
-        let groups = table.iter().copied().flatten();
-        let known = |row: &&str| groups.clone().any(|rows| rows.contains(row));
-        let shared = self.shared.into_iter().filter(known);
+        let known = table.concat().concat();
+        let shared = self.shared.into_iter().filter(|row| known.contains(row));
         self.rows.into_iter().chain(shared).collect()
     }
 }

@@ -1,15 +1,13 @@
 //! A run: the short inputs of every call, then random ones up to the limit, then the table.
 
-use crate::call::{Call, Outcome};
-use crate::random::Random;
-use crate::shrink::{compare, shrink, Difference};
+use crate::prelude::*;
+use crate::shrink::{agree, both, shrink, Both};
 use crate::tally::{grouped, Tally};
 use std::time::{Duration, Instant};
 
 /// How many random calls a round has before the limit is looked at.
 const ROUND: usize = 10_000;
 
-#[derive(Clone, Copy)]
 pub enum Limit {
     Calls(usize),
     Seconds(u64),
@@ -21,62 +19,45 @@ pub enum Limit {
 pub struct Runner<C: Call> {
     call: C,
     random: Random,
-    seed: u64,
     tally: Tally,
 }
 
 impl<C: Call + 'static> Runner<C> {
     pub fn boxed(seed: u64) -> Box<dyn Compared> {
-        Box::new(Runner {
-            call: C::default(),
-            random: Random::new(seed, C::NAME),
-            seed,
-            tally: Tally::of::<C>(),
-        })
+        let (call, random) = (C::default(), Random::new(seed, C::NAME));
+        Box::new(Runner { call, random, tally: Tally::of::<C>() })
     }
 
     fn one(&mut self, input: C::Input) -> Result<(), String> {
-        match compare(&self.call, &input) {
-            Ok(expected) => {
-                let asked = expected.asked;
-                self.tally.add(asked, &expected.row, &expected.met);
-                Ok(())
-            }
-            Err(difference) => Err(self.told(&input, &difference)),
+        let found = both(&self.call, &input);
+        if !agree(&found) {
+            return Err(self.told(&input, &found));
         }
+        self.tally.add(&found.0);
+        Ok(())
     }
 
     /// A difference, in its smallest form and as it was found.
-    fn told(&self, input: &C::Input, found: &Difference) -> String {
-        let calls = grouped(self.tally.calls());
-        let found = self.both(input, found);
-        let smallest = match shrink(&self.call, input) {
-            Some((small, difference)) => self.both(&small, &difference),
-            None => found.clone(),
-        };
+    fn told(&self, input: &C::Input, found: &Both) -> String {
+        let (name, calls) = (C::NAME, grouped(self.tally.calls()));
+        let small = shrink(&self.call, input);
+        let smallest = self.shown(&small, &both(&self.call, &small));
+        let found = self.shown(input, found);
         format!(
-            "DIFFERENCE in {}, after {calls} calls that agree.\n\
-            In its smallest form:\n{smallest}\nAs it was found:\n{found}",
-            C::NAME,
+            "DIFFERENCE in {name}, after {calls} calls that agree.\n\
+            In its smallest form:\n{smallest}\nAs it was found:\n{found}"
         )
     }
 
-    fn both(&self, input: &C::Input, difference: &Difference) -> String {
-        let expected = &difference.expected;
-        let wanted = match &expected.outcome {
-            Ok(outcome) => self.outcome(input, outcome),
-            Err(why) => why.clone(),
-        };
+    fn shown(&self, input: &C::Input, (expected, ours): &Both) -> String {
         let by = if expected.asked { "the Rust" } else { "01" };
-        let first = match &expected.outcome {
-            Ok(outcome) => first_difference(&outcome.written, &difference.ours.written),
-            Err(_) => String::new(),
+        let (wanted, first) = match &expected.outcome {
+            Ok(outcome) => (self.outcome(input, outcome), first_difference(outcome, ours)),
+            Err(why) => (why.clone(), String::new()),
         };
-        format!(
-            "  {}\n  {by:<9} {wanted}\n  ours      {}{first}",
-            clipped(self.call.show(input, &expected.handed)),
-            self.outcome(input, &difference.ours),
-        )
+        let shown = clipped(self.call.show(input, &expected.handed));
+        let ours = self.outcome(input, ours);
+        format!("  {shown}\n  {by:<9} {wanted}\n  ours      {ours}{first}")
     }
 
     fn outcome(&self, input: &C::Input, outcome: &Outcome) -> String {
@@ -88,15 +69,12 @@ impl<C: Call + 'static> Runner<C> {
 }
 
 /// Where two outputs differ first, if they do.
-fn first_difference(wanted: &[Vec<u8>], ours: &[Vec<u8>]) -> String {
-    let (wanted, ours) = (wanted.concat(), ours.concat());
-    let pairs = wanted.iter().zip(&ours).enumerate();
-    match pairs.into_iter().find(|(_, (wanted, ours))| wanted != ours) {
-        Some((at, (wanted, ours))) => {
-            format!("\n  first at  byte {at} of the output: {wanted:02x}, ours {ours:02x}")
-        }
-        None => String::new(),
-    }
+fn first_difference(wanted: &Outcome, ours: &Outcome) -> String {
+    let (wanted, ours) = (wanted.written.concat(), ours.written.concat());
+    let first = wanted.iter().zip(&ours).enumerate().find(|(_, (wanted, ours))| wanted != ours);
+    first.map_or(String::new(), |(at, (wanted, ours))| {
+        format!("\n  first at  byte {at} of the output: {wanted:02x}, ours {ours:02x}")
+    })
 }
 
 /// The front of a line that is too long to read.
@@ -113,7 +91,7 @@ pub trait Compared {
     fn short(&mut self) -> Result<(), String>;
     fn random(&mut self, calls: usize) -> Result<(), String>;
     fn tally(&self) -> &Tally;
-    fn record(&self, cases: usize) -> Vec<String>;
+    fn record(&self, seed: u64, cases: usize) -> Vec<String>;
 }
 
 impl<C: Call + 'static> Compared for Runner<C> {
@@ -122,20 +100,19 @@ impl<C: Call + 'static> Compared for Runner<C> {
     }
 
     fn random(&mut self, calls: usize) -> Result<(), String> {
-        for _ in 0..calls {
+        (0..calls).try_for_each(|_| {
             let input = self.call.random(&mut self.random);
-            self.one(input)?;
-        }
-        Ok(())
+            self.one(input)
+        })
     }
 
     fn tally(&self) -> &Tally {
         &self.tally
     }
 
-    fn record(&self, cases: usize) -> Vec<String> {
+    fn record(&self, seed: u64, cases: usize) -> Vec<String> {
         let stream = format!("record {}", C::NAME);
-        self.call.record(&mut Random::new(self.seed, &stream), cases)
+        self.call.record(&mut Random::new(seed, &stream), cases)
     }
 }
 
@@ -143,41 +120,30 @@ impl<C: Call + 'static> Compared for Runner<C> {
 pub fn run(calls: &mut [Box<dyn Compared>], limit: Limit) -> Result<(), String> {
     let started = Instant::now();
     let all_shares: usize = calls.iter().map(|call| call.tally().share).sum();
-    for call in calls.iter_mut() {
-        call.short()?;
-    }
+    calls.iter_mut().try_for_each(|call| call.short())?;
     let short = total(calls);
     println!("{} short inputs, then random ones", grouped(short));
-    loop {
-        let round = match limit {
-            Limit::Calls(all) => all.saturating_sub(total(calls)).min(ROUND),
-            Limit::Lists(all) => (all + short).saturating_sub(total(calls)).min(ROUND),
-            Limit::Seconds(all) if started.elapsed() < Duration::from_secs(all) => ROUND,
-            Limit::Seconds(_) => 0,
-        };
-        if round == 0 {
-            break;
-        }
-        let mut dealt = 0;
+    let left = |done: usize| match limit {
+        Limit::Calls(all) => all.saturating_sub(done),
+        Limit::Lists(all) => (all + short).saturating_sub(done),
+        Limit::Seconds(all) if started.elapsed() < Duration::from_secs(all) => ROUND,
+        Limit::Seconds(_) => 0,
+    };
+    while let round @ 1.. = left(total(calls)).min(ROUND) {
         let mut shares = 0;
         for call in calls.iter_mut() {
+            let dealt = round * shares / all_shares;
             shares += call.tally().share;
-            let part = round * shares / all_shares - dealt;
-            call.random(part)?;
-            dealt += part;
+            call.random(round * shares / all_shares - dealt)?;
         }
     }
-    let seconds = started.elapsed().as_secs_f64();
-    let asked: usize = calls.iter().map(|call| call.tally().asked()).sum();
+    let (all, seconds) = (total(calls), started.elapsed().as_secs_f64());
+    let asked: usize = calls.iter().map(|call| call.tally().asked).sum();
+    let a_second = grouped((all as f64 / seconds) as usize);
+    let (all, asked) = (grouped(all), grouped(asked));
     println!(
-        "{} calls, {} of them beside the Rust, the others refused or answered as 01 says: \
-        no difference",
-        grouped(total(calls)),
-        grouped(asked),
-    );
-    println!(
-        "{seconds:.1} s, {} calls a second\n",
-        grouped((total(calls) as f64 / seconds) as usize)
+        "{all} calls, {asked} of them beside the Rust, the others refused or answered as 01 says: \
+        no difference\n{seconds:.1} s, {a_second} calls a second\n"
     );
     Ok(())
 }
@@ -188,11 +154,8 @@ fn total(calls: &[Box<dyn Compared>]) -> usize {
 
 /// Prints the table; false if a row stayed empty.
 pub fn report(calls: &[Box<dyn Compared>]) -> bool {
-    let mut empty = vec![];
-    for call in calls {
-        call.tally().print();
-        empty.extend(call.tally().empty());
-    }
+    calls.iter().for_each(|call| call.tally().print());
+    let empty: Vec<String> = calls.iter().flat_map(|call| call.tally().empty()).collect();
     for row in &empty {
         println!("NOT MET: {row}");
     }

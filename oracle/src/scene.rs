@@ -1,9 +1,10 @@
 //! A lexicon beside a store, and the original with the same runtime entries.
 
-use crate::forever::{hold_texts, Held};
+use crate::forever::{hold_bytes, Held};
 use crate::prelude::*;
 use crate::stores::Placed;
 use original::lexicon::probe;
+use std::collections::BTreeMap;
 
 /// What lookup and both adds are given.
 pub struct Scene {
@@ -113,66 +114,48 @@ impl Scene {
     /// The store when the original's list has become this one by adds of these keys: a known key keeps
     /// its slot, a new one takes the next, and the chain is the list's order.
     pub fn store_of(&self, keys: &[Key], list: &[Entry]) -> Result<Vec<u8>, String> {
-        let mut slots = self.slots();
+        let slot = |placed: &Placed| (placed.entry.key(), placed.slot);
+        let mut slots: BTreeMap<Key, usize> = self.entries().iter().map(slot).collect();
         for key in keys {
-            if slots.iter().all(|(known, _)| known != key) {
-                slots.push((key.clone(), slots.len() + 1));
-            }
+            let next = slots.len() + 1;
+            slots.entry(key.clone()).or_insert(next);
         }
         let placed = |entry: &Entry| {
-            let (key, entry) = (entry.key(), entry.clone());
-            let slot = slots.iter().find(|(known, _)| *known == key)?.1;
-            Some(Placed { slot, entry })
+            slots.get(&entry.key()).map(|slot| Placed { slot: *slot, entry: entry.clone() })
         };
         let chain: Option<Vec<Placed>> = list.iter().map(placed).collect();
-        match chain {
-            Some(chain) if chain.len() == slots.len() => {
-                let store = stores::write(&self.store, &chain);
-                let read = stores::read(&store) == Ok(chain);
-                assert!(read, "the driver does not read what it wrote");
-                Ok(store)
-            }
-            _ => Err("the original's list has other keys than 01 says".into()),
-        }
-    }
-
-    /// The keys of the store, with their slots.
-    fn slots(&self) -> Vec<(Key, usize)> {
-        let slot = |placed: &Placed| (placed.entry.key(), placed.slot);
-        self.entries().iter().map(slot).collect()
+        let chain = chain.filter(|chain| chain.len() == slots.len());
+        let chain = chain.ok_or("the original's list has other keys than 01 says")?;
+        let store = stores::write(&self.store, &chain);
+        assert!(stores::read(&store) == Ok(chain), "the driver does not read what it wrote");
+        Ok(store)
     }
 
     /// The keys of the store, the oldest first.
     pub fn keys(&self) -> Vec<Key> {
-        self.slots().into_iter().map(|(key, _)| key).collect()
+        self.entries().iter().map(|placed| placed.entry.key()).collect()
     }
 
     /// The slot that an entry of this key has, or would get.
     pub fn slot_for(&self, key: &Key) -> usize {
-        let slots = self.slots();
-        let known = slots.iter().find(|(known, _)| known == key);
-        known.map_or(slots.len() + 1, |(_, slot)| *slot)
+        let known = self.entries().iter().find(|placed| placed.entry.key() == *key);
+        known.map_or(self.entries().len() + 1, |placed| placed.slot)
     }
 
     /// The store grown by adds, which the original makes; those without room are left out.
     pub fn grown(&self, adds: &[Add]) -> Vec<u8> {
-        let mut keys = vec![];
-        let mut known = self.keys();
+        let mut keys = self.keys();
         let (_, list) = self.changed(|lexicon| {
-            for add in adds {
-                let Wanted { word, tag } = &add.wanted;
-                let key = key(word, tag);
-                if !known.contains(&key) {
-                    if known.len() == stores::room(&self.store) {
-                        continue;
-                    }
-                    known.push(key.clone());
+            for Add { wanted, phones } in adds {
+                let key = key(&wanted.word, &wanted.tag);
+                let is_new = !keys.contains(&key);
+                if is_new && keys.len() == stores::room(&self.store) {
+                    continue;
                 }
-                let phones: Vec<&str> = add.phones.texts().into_iter().map(ascii).collect();
-                lexicon
-                    .add_entry(ascii(word), Some(ascii(tag)), &phones)
-                    .expect("the phones are known");
-                keys.push(key);
+                keys.extend(is_new.then_some(key));
+                let (word, tag) = (ascii(&wanted.word), ascii(&wanted.tag));
+                let phones: Vec<&str> = phones.texts().into_iter().map(ascii).collect();
+                lexicon.add_entry(word, Some(tag), &phones).expect("the phones are known");
             }
         });
         self.store_of(&keys, &list).expect("the original adds what 01 says")
@@ -191,13 +174,17 @@ impl Shrink for Rc<Scene> {
 
 /// The original with these runtime entries.
 fn with_entries(lexicon: &Lexicon, entries: &[Placed]) -> Held<lexicon::Lexicon> {
-    let phones = entries.iter().flat_map(|placed| &placed.entry.phones);
-    let texts: Vec<&[u8]> = phones.map(|phone| &phone[..]).collect();
-    hold_texts(&texts, |texts| {
-        let mut texts = texts.into_iter();
+    let texts = entries.iter().flat_map(|placed| placed.entry.phones.concat());
+    hold_bytes(texts.collect(), |texts| {
+        let mut rest = ascii(texts);
+        let mut held = |phone: &Vec<u8>| {
+            let (front, behind) = rest.split_at(phone.len());
+            rest = behind;
+            front
+        };
         let added = |placed: &Placed| {
             let Entry { tag, word, phones } = &placed.entry;
-            let phones = texts.by_ref().take(phones.len()).collect();
+            let phones = phones.iter().map(&mut held).collect();
             (char::from(*tag), ascii(word).to_string(), phones)
         };
         probe::with_added(lexicon.original(), entries.iter().map(added).collect())

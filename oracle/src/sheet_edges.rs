@@ -16,32 +16,25 @@ pub fn word(text: &str, syllables: &[&str]) -> Word {
 
 /// Words in items that follow each other.
 pub fn in_order(words: &[Word]) -> Vec<Placed> {
-    let mut used = 0;
-    let mut placed = vec![];
-    for word in words {
-        let items = used + 1..=used + word.items();
-        used = *items.end();
-        placed.push(Placed { word: word.clone(), items: items.collect() });
-    }
-    placed
+    let mut unused = 1..;
+    let placed = |word: &Word| {
+        let items = unused.by_ref().take(word.items()).collect();
+        Placed { word: word.clone(), items }
+    };
+    words.iter().map(placed).collect()
 }
 
 /// A sheet of these words, with so many bytes behind them, which are all this one.
 pub fn sheet(placed: &[Placed], behind: usize, fill: u8) -> Vec<u8> {
-    let used = sheets::used(placed);
-    sheets::write(&vec![fill; ITEM * (used + 1) + behind], placed)
+    sheets::write(&vec![fill; ITEM * (sheets::used(placed) + 1) + behind], placed)
 }
 
 /// Three words, one of them without phones, numbered from behind; two unused items and ten bytes more.
 pub fn good() -> Vec<u8> {
-    let mut placed = in_order(&[
-        word("it's", &["1 ih t s"]),
-        word(",", &[]),
-        word("Extra", &["1 eh k", "0 s t r ax"]),
-    ]);
-    let used = sheets::used(&placed);
-    sheets::renumber(&mut placed, |item| used + 1 - item);
-    sheet(&placed, 2 * ITEM + 10, 0xb7)
+    let extra = word("Extra", &["1 eh k", "0 s t r ax"]);
+    let placed = in_order(&[word("it's", &["1 ih t s"]), word(",", &[]), extra]);
+    let from_behind = (1..=sheets::used(&placed)).rev();
+    sheet(&sheets::renumbered(&placed, from_behind), 2 * ITEM + 10, 0xb7)
 }
 
 /// The smallest sheet with items of every kind.
@@ -96,21 +89,12 @@ pub fn small() -> Vec<Vec<u8>> {
     for (i, words) in words.iter().enumerate() {
         let placed = in_order(words);
         let used = sheets::used(&placed);
-        let renumbered = |number: &dyn Fn(usize) -> usize| {
-            let mut placed = placed.clone();
-            sheets::renumber(&mut placed, number);
-            placed
-        };
         all.push(sheet(&placed, 0, 0));
         all.push(sheet(&placed, 64 * (i % 9) + i, 0xc4));
-        all.push(sheet(&renumbered(&|item| used + 1 - item), 640, 0));
+        all.push(sheet(&sheets::renumbered(&placed, (1..=used).rev()), 640, 0));
         for at in 1..used {
-            let swapped = |item| match item {
-                item if item == at => at + 1,
-                item if item == at + 1 => at,
-                item => item,
-            };
-            all.push(sheet(&renumbered(&swapped), 640 + at, 0x31));
+            let swapped = (1..at).chain([at + 1, at]).chain(at + 2..=used);
+            all.push(sheet(&sheets::renumbered(&placed, swapped), 640 + at, 0x31));
         }
     }
     all
@@ -122,14 +106,11 @@ pub fn limits() -> Vec<Vec<u8>> {
     let mut all = vec![good.clone(), smallest()];
     let lengths = [0, 1, 63, 64, 65, 127, 128, 129, 191, 192, 640];
     all.extend(lengths.map(|len| resized(&good, len)));
-    let longest = [LARGEST - ITEM, LARGEST - 1, LARGEST, LARGEST + 1];
-    let lengths = [&lengths[..], &longest, &[LARGEST + ITEM, 2 * LARGEST]].concat();
-    all.extend(lengths.into_iter().map(|len| vec![0; len]));
+    let longest = [LARGEST - ITEM, LARGEST - 1, LARGEST, LARGEST + 1, LARGEST + ITEM, 2 * LARGEST];
+    all.extend(lengths.into_iter().chain(longest).map(|len| vec![0; len]));
     // cut behind its last used item, within it, and before it
     let used = sheets::unused(&good);
-    for len in [used + 63, used, used - 1, used - ITEM] {
-        all.push(good[..len].to_vec());
-    }
+    all.extend([used + 63, used, used - 1, used - ITEM].map(|len| good[..len].to_vec()));
     // every item used, or all but a few
     for (words, more) in [(1_023, 0), (1_022, 64), (1_022, 63), (1_020, 255)] {
         all.push(sheet(&in_order(&vec![word("", &[]); words]), more, 0x5a));
@@ -137,8 +118,7 @@ pub fn limits() -> Vec<Vec<u8>> {
     let phones = "1 ae t s r k n l d z b";
     for words in [1_023 / 12, 1_000 / 12] {
         let placed = in_order(&vec![word("long", &[phones]); words]);
-        let used = 12 * words;
-        all.push(sheet(&placed, LARGEST - ITEM * (used + 1), 0));
+        all.push(sheet(&placed, LARGEST - ITEM * (12 * words + 1), 0));
     }
     // longest texts, empty ones, and bytes that no word of a text has
     let longest = word(&"w".repeat(47), &["0 abcdefghijklmno", "1 pppppppppppp111"]);
@@ -149,6 +129,32 @@ pub fn limits() -> Vec<Vec<u8>> {
     all
 }
 
+/// Changes to the sheet of `unsound`, parted by commas; a byte stands as item.field=value.
+const CHANGES: [&str; 11] = [
+    // the phones in another order: forwards, backwards, and both ways
+    "0.12=4 4.12=3 3.12=9, 0.10=9 9.10=8 8.10=4, 3.12=8 8.12=9 9.12=0 0.10=9 9.10=8 8.10=3",
+    // a phone left out of both chains; a ring of phones
+    "3.12=9 9.10=3, 8.12=3 3.10=8",
+    // the same child in two syllables; a syllable's phones under another one
+    "7.4=9 7.6=9, 6.4=8 6.6=8 7.4=9 7.6=9",
+    // syllables in another order than their phones; words in another order
+    "5.4=7 7.2=6 6.2=0 5.6=6, 0.4=5 5.2=1 1.2=0 0.6=1",
+    // the last word, the last syllable and the last phone left out
+    "0.6=1 1.2=0, 5.6=6 6.2=0, 2.6=3 3.2=0, 0.6=1 1.2=0 0.8=4 4.12=0 0.10=4",
+    // a syllable without its phone, which no chain reaches any more
+    "7.4=0 7.6=0 9.12=0 0.10=9",
+    // an item more, or one less, than there are
+    "0.8=10, 0.8=8",
+    // items behind the used ones, linked in the place of used ones
+    "0.8=0, 0.4=0 0.6=0 0.8=0 0.10=0 0.12=0, 0.4=0 0.6=0 0.10=0 0.12=0",
+    // circles
+    "5.2=1, 7.2=6, 4.2=3, 3.2=3, 1.2=1",
+    // kinds exchanged, with their fields
+    "1.0=2 1.1=48, 2.0=1 2.1=0, 3.0=2 3.1=48, 1.0=4",
+    // parents of a neighbour
+    "6.8=1 7.8=1, 9.8=7, 5.8=1",
+];
+
 /// Sheets that break one part of what sound means, where altering one byte does not do it.
 fn unsound() -> Vec<Vec<u8>> {
     // items: 1 a, 2 its syllable, 3 and 4 its phones; 5 b, 6 and 7 its syllables with the phones
@@ -157,55 +163,14 @@ fn unsound() -> Vec<Vec<u8>> {
     placed[1].items = vec![5, 6, 9, 7, 8];
     let good = sheet(&placed, 128, 0);
     let mut all = vec![good.clone()];
-    let mut change = |changes: &[(usize, usize, u8)]| {
-        let mut sheet = good.clone();
-        for (item, field, value) in changes {
-            sheet[ITEM * item + field] = *value;
+    let changes = CHANGES.iter().flat_map(|changes| changes.split(','));
+    all.extend(with(&good, changes, |sheet, change| {
+        for byte in change.split_whitespace() {
+            let numbers = byte.split(['.', '=']).map(|number| number.parse().expect("a number"));
+            let numbers: Vec<usize> = numbers.collect();
+            sheet[ITEM * numbers[0] + numbers[1]] = numbers[2] as u8;
         }
-        all.push(sheet);
-    };
-    // the phones in another order: forwards, backwards, and both ways
-    change(&[(0, 12, 4), (4, 12, 3), (3, 12, 9)]);
-    change(&[(0, 10, 9), (9, 10, 8), (8, 10, 4)]);
-    change(&[(3, 12, 8), (8, 12, 9), (9, 12, 0), (0, 10, 9), (9, 10, 8), (8, 10, 3)]);
-    // a phone left out of both chains; a ring of phones
-    change(&[(3, 12, 9), (9, 10, 3)]);
-    change(&[(8, 12, 3), (3, 10, 8)]);
-    // the same child in two syllables; a syllable's phones under another one
-    change(&[(7, 4, 9), (7, 6, 9)]);
-    change(&[(6, 4, 8), (6, 6, 8), (7, 4, 9), (7, 6, 9)]);
-    // syllables in another order than their phones; words in another order
-    change(&[(5, 4, 7), (7, 2, 6), (6, 2, 0), (5, 6, 6)]);
-    change(&[(0, 4, 5), (5, 2, 1), (1, 2, 0), (0, 6, 1)]);
-    // the last word, the last syllable and the last phone left out
-    change(&[(0, 6, 1), (1, 2, 0)]);
-    change(&[(5, 6, 6), (6, 2, 0)]);
-    change(&[(2, 6, 3), (3, 2, 0)]);
-    change(&[(0, 6, 1), (1, 2, 0), (0, 8, 4), (4, 12, 0), (0, 10, 4)]);
-    // a syllable without its phone, which no chain reaches any more
-    change(&[(7, 4, 0), (7, 6, 0), (9, 12, 0), (0, 10, 9)]);
-    // an item more, or one less, than there are
-    change(&[(0, 8, 10)]);
-    change(&[(0, 8, 8)]);
-    // items behind the used ones, linked in the place of used ones
-    change(&[(0, 8, 0)]);
-    change(&[(0, 4, 0), (0, 6, 0), (0, 8, 0), (0, 10, 0), (0, 12, 0)]);
-    change(&[(0, 4, 0), (0, 6, 0), (0, 10, 0), (0, 12, 0)]);
-    // circles
-    change(&[(5, 2, 1)]);
-    change(&[(7, 2, 6)]);
-    change(&[(4, 2, 3)]);
-    change(&[(3, 2, 3)]);
-    change(&[(1, 2, 1)]);
-    // kinds exchanged, with their fields
-    change(&[(1, 0, 2), (1, 1, 48)]);
-    change(&[(2, 0, 1), (2, 1, 0)]);
-    change(&[(3, 0, 2), (3, 1, 48)]);
-    change(&[(1, 0, 4)]);
-    // parents of a neighbour
-    change(&[(6, 8, 1), (7, 8, 1)]);
-    change(&[(9, 8, 7)]);
-    change(&[(5, 8, 1)]);
+    }));
     // syllables that never had a phone: alone, before others and behind them
     for syllables in [&["1"][..], &["0", "1 k"], &["1 k", "0"]] {
         let words = [word("a", syllables), word("b", &["1 s"])];

@@ -26,31 +26,25 @@ fn word(random: &mut Random, phones: &Phones) -> Word {
     let alphabet = words::alphabet(random);
     let syllable = |random: &mut Random| {
         let count = 1 + random.weighted(&[4, 4, 2, 1]);
-        Syllable {
-            stress: random.pick_byte(b"01"),
-            phones: (0..count).map(|_| phones.phone(random)).collect(),
-        }
+        let stress = random.pick_byte(b"01");
+        Syllable { stress, phones: (0..count).map(|_| phones.phone(random)).collect() }
     };
     let count = random.weighted(&[2, 5, 3, 1, 1]);
-    Word {
-        text: words::accepted(random, &alphabet),
-        syllables: (0..count).map(|_| syllable(random)).collect(),
-    }
+    let text = words::accepted(random, &alphabet);
+    Word { text, syllables: (0..count).map(|_| syllable(random)).collect() }
 }
 
 /// A sound sheet with so many unused items, or as many as there is room for.
 pub fn random(random: &mut Random, phones: &Phones, unused: usize) -> Vec<u8> {
     let most = (LARGEST / ITEM - 1).saturating_sub(unused);
-    let count = match random.weighted(&[60, 1]) {
-        0 => Some(random.weighted(&[2, 6, 4, 3, 2, 1, 1])),
-        _ => None,
-    };
+    let is_full = random.weighted(&[60, 1]) == 1;
+    let count = (!is_full).then(|| random.weighted(&[2, 6, 4, 3, 2, 1, 1]));
     let mut placed = in_order(&words(random, phones, count, most));
     let used = sheets::used(&placed);
     if random.once_in(3) {
         let mut numbers: Vec<usize> = (1..=used).collect();
         random.shuffle(&mut numbers);
-        sheets::renumber(&mut placed, |item| numbers[item - 1]);
+        placed = sheets::renumbered(&placed, numbers);
     }
     let more = random.ranged(&[(4, 0, 0), (2, ITEM - 1, ITEM - 1), (3, 0, ITEM - 1)]);
     let behind = (ITEM * unused + more).min(LARGEST - ITEM * (used + 1));
@@ -64,9 +58,8 @@ pub fn random(random: &mut Random, phones: &Phones, unused: usize) -> Vec<u8> {
 
 /// The lengths of sheets that lists of calls work on.
 pub fn length(random: &mut Random) -> usize {
-    let few = [(2, 1, 1), (2, 2, 2), (16, 3, 12)];
-    let more = [(24, 13, 40), (14, 41, 64), (2, 65, 200)];
-    let items = random.ranged(&[few, more].concat());
+    let counts = [(2, 1, 1), (2, 2, 2), (16, 3, 12), (24, 13, 40), (14, 41, 64), (2, 65, 200)];
+    let items = random.ranged(&counts);
     let more = [0, 1, ITEM - 1, random.below(ITEM)][random.weighted(&[5, 1, 1, 2])];
     ITEM * items + more
 }
@@ -81,50 +74,24 @@ pub fn damaged(random: &mut Random, sheet: &[u8]) -> Vec<u8> {
     };
     let item = ITEM * random.between(usize::from(used > 0), used);
     match random.below(17) {
-        0 => {
-            let lengths = [0, ITEM - 1, LARGEST + 1, LARGEST + ITEM];
-            sheet.resize(lengths[random.below(4)], 0);
-        }
+        0 => sheet.resize([0, ITEM - 1, LARGEST + 1, LARGEST + ITEM][random.below(4)], 0),
         1 => sheet.truncate(ITEM * random.between(0, used) + random.below(ITEM)),
-        2 | 3 => {
-            // a field of item 0
-            let field = random.pick(&[&4_usize, &6, &8, &10, &12]);
-            put(&mut sheet, *field, link(random));
-        }
-        4 | 5 => {
-            // a link of any item
-            let field = item + 2 * random.between(1, 6);
-            put(&mut sheet, field, link(random));
-        }
+        // a field of item 0, a link of any item, two links exchanged
+        2 | 3 => put(&mut sheet, 2 * random.between(2, 6), link(random)),
+        4 | 5 => put(&mut sheet, item + 2 * random.between(1, 6), link(random)),
         6 => {
-            // two links exchanged
             let field = 2 * random.between(1, 6);
             let other = ITEM * random.between(0, used);
             for at in [field, field + 1] {
                 sheet.swap(item + at, other + at);
             }
         }
-        7 => sheet[item] = random.pick_byte(&[0, 1, 2, 3, 4, 128, 255]),
-        8 => sheet[item + 1] = random.pick_byte(&[0, 1, 47, 48, 49, 50, 128, 255]),
-        9 => sheet[item + 16] = random.pick_byte(&[0, 1, 2, 14, 15, 16, 17, 46, 47, 48, 128, 255]),
-        10 => {
-            let at = item + random.between(17, 24);
-            sheet[at] |= 128;
-        }
-        11 => sheet[item + random.between(14, ITEM - 1)] = random.byte(),
-        12 => sheet[item + random.below(ITEM)] = random.byte(),
-        13 => {
-            // a longer text, up to the limits of words and phones
-            let len = random.pick_byte(&[15, 16, 47, 48]);
-            sheet[item + 16] = len;
-            let end = (17 + usize::from(len)).min(ITEM);
-            sheet[item + 17..item + end].fill(b'x');
-        }
+        way @ 7..=13 => damage_item(random, &mut sheet[item..][..ITEM], way),
         14 => return with_empty_syllable(random, &sheet),
         15 if used + 1 < items => {
             let links = |item| [2, 4, 6, 8, 10, 12].map(|link| ITEM * item + link);
             // item 0's number of used items is no link
-            let links = (0..=used + 1).flat_map(links).filter(|at| *at != 8);
+            let links = (0..=used + 1).flat_map(links).filter(|at| *at != 8).collect();
             records::in_place_of(&mut sheet, ITEM, [item / ITEM, used + 1], links);
         }
         _ => {
@@ -133,6 +100,24 @@ pub fn damaged(random: &mut Random, sheet: &[u8]) -> Vec<u8> {
         }
     }
     sheet
+}
+
+/// Alters a field of an item, or any byte of it, in one of the ways.
+fn damage_item(random: &mut Random, item: &mut [u8], way: usize) {
+    match way {
+        7 => item[0] = random.pick_byte(&[0, 1, 2, 3, 4, 128, 255]),
+        8 => item[1] = random.pick_byte(&[0, 1, 47, 48, 49, 50, 128, 255]),
+        9 => item[16] = random.pick_byte(&[0, 1, 2, 14, 15, 16, 17, 46, 47, 48, 128, 255]),
+        10 => item[random.between(17, 24)] |= 128,
+        11 => item[random.between(14, ITEM - 1)] = random.byte(),
+        12 => item[random.below(ITEM)] = random.byte(),
+        _ => {
+            // a longer text, up to the limits of words and phones
+            item[16] = random.pick_byte(&[15, 16, 47, 48]);
+            let end = (17 + usize::from(item[16])).min(ITEM);
+            item[17..end].fill(b'x');
+        }
+    }
 }
 
 /// The same words in their order, one syllable without its phones.
@@ -158,15 +143,14 @@ pub fn smaller(sheet: &[u8]) -> Vec<Vec<u8>> {
     let one_less = (sheet.len() - ITEM).max(from);
     let lengths = [from, from + ITEM - 1, from + ITEM, whole, one_less];
     let mut all = records::less_behind(sheet, from, &lengths);
-    // the items of words that are left out become unused
-    let rewritten = |words: &[Word]| sheets::write(sheet, &in_order(words));
     let words: Vec<Word> = placed.iter().map(|placed| placed.word.clone()).collect();
-    if in_order(&words) != placed {
-        all.push(rewritten(&words));
-    }
     let mut fewer = words.smaller();
     let has_phones = |word: &Word| word.syllables.iter().all(|s| !s.phones.is_empty());
     fewer.retain(|words| words.iter().all(has_phones));
-    all.extend(fewer.iter().map(|words| rewritten(words)));
+    if in_order(&words) != placed {
+        fewer.insert(0, words);
+    }
+    // the items of words that are left out become unused
+    all.extend(fewer.iter().map(|words| sheets::write(sheet, &in_order(words))));
     all
 }

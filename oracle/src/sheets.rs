@@ -8,8 +8,6 @@ use crate::spoken::{Syllable, Word};
 pub const ITEM: usize = 64;
 /// The longest sheet that 01 accepts.
 pub const LARGEST: usize = 65_536;
-/// The longest text of a phone.
-pub const LONGEST_PHONE: usize = 15;
 
 // The kinds of items.
 const WORD: u8 = 1;
@@ -61,8 +59,7 @@ pub fn read(sheet: &[u8]) -> Result<Vec<Placed>, &'static str> {
             items.extend(&below);
             phones.extend(below);
         }
-        let text = read_text(tree.items[at])?;
-        let word = Word { text, syllables };
+        let word = Word { text: read_text(tree.items[at])?, syllables };
         words.push(Placed { word, items });
     }
     of_all(&tree.seen)?;
@@ -145,7 +142,7 @@ checks! { pub UNSOUND:
         "sheet: stress that is neither 48 nor 49" => !syllable || matches!(item[STRESS], b'0' | b'1'),
         "sheet: stress of a word or a phone" => syllable || item[STRESS] == 0,
         "sheet: word over 47 bytes" => !word || len <= words::LONGEST,
-        "sheet: phone over 15 bytes" => !phone || len <= LONGEST_PHONE,
+        "sheet: phone over 15 bytes" => !phone || len < CELL,
         "sheet: text with a high byte" => item[TEXT..][..len].is_ascii(),
         "sheet: bytes past a text" => zeros(&item[TEXT + len..]),
     ]
@@ -236,9 +233,7 @@ pub fn with_word(sheet: &[u8], before: &[Placed], word: &Word) -> Vec<u8> {
     assert!(read(&after).as_ref() == Ok(&words), "the driver does not read what it wrote");
     let last_word = before.last().map_or(0, |placed| placed.items[0]);
     // a word that has phones ends with one
-    let spoken = |placed: &&Placed| placed.items.len() > 1;
-    let last_phone =
-        before.iter().rfind(spoken).map_or(0, |placed| placed.items[placed.items.len() - 1]);
+    let last_phone = *before.iter().rev().find_map(|word| word.items[1..].last()).unwrap_or(&0);
     let touched = |at: usize| match (at / ITEM, at % ITEM) {
         (0, field) => (FIRST..LINKS_END).contains(&field),
         (item, _) if item > used => item <= used + word.items(),
@@ -256,11 +251,14 @@ pub fn used(placed: &[Placed]) -> usize {
     placed.iter().map(|placed| placed.items.len()).sum()
 }
 
-/// The same words in other items.
-pub fn renumber(placed: &mut [Placed], number: impl Fn(usize) -> usize) {
+/// The same words in other items, by the new numbers of the items 1 to so many.
+pub fn renumbered(placed: &[Placed], numbers: impl IntoIterator<Item = usize>) -> Vec<Placed> {
+    let numbers: Vec<usize> = numbers.into_iter().collect();
+    let mut placed = placed.to_vec();
     for item in placed.iter_mut().flat_map(|placed| &mut placed.items) {
-        *item = number(*item);
+        *item = numbers[*item - 1];
     }
+    placed
 }
 
 /// A new sheet over some bytes.
@@ -290,11 +288,8 @@ impl Reading {
     /// What it should be, by what was said.
     pub fn of(words: &[Word]) -> Reading {
         let forwards: Vec<Vec<u8>> = words.iter().flat_map(Word::phones).cloned().collect();
-        Reading {
-            words: words.to_vec(),
-            backwards: forwards.iter().rev().cloned().collect(),
-            forwards,
-        }
+        let backwards = forwards.iter().rev().cloned().collect();
+        Reading { words: words.to_vec(), forwards, backwards }
     }
 }
 
@@ -303,19 +298,15 @@ impl Reading {
 /// if some item of kind 3 up to used is not met exactly once.
 pub fn reading(sheet: &[u8]) -> Option<Reading> {
     let items: Vec<&[u8]> = sheet.chunks_exact(ITEM).collect();
-    let chain = |first: usize, link: usize| {
+    let chain = |from: usize, first: usize, link: usize| {
         let mut chain = vec![];
-        let mut at = first;
-        while at != 0 {
-            if chain.len() > items.len() {
-                return None;
-            }
+        let mut at = number(&items[from][first..]);
+        while at != 0 && chain.len() <= items.len() {
             chain.push(at);
-            at = number(items.get(at)?.get(link..)?);
+            at = number(&items.get(at)?[link..]);
         }
-        Some(chain)
+        (at == 0).then_some(chain)
     };
-    let field = |item: usize, field: usize| number(&items[item][field..]);
     let text = |item: &usize| {
         let len = usize::from(items[*item][LEN]);
         Some(items[*item].get(TEXT..TEXT + len)?.to_vec())
@@ -323,26 +314,19 @@ pub fn reading(sheet: &[u8]) -> Option<Reading> {
     let texts = |chain: &[usize]| chain.iter().map(text).collect::<Option<Vec<_>>>();
     let mut words = vec![];
     let mut met = vec![];
-    for word in chain(field(0, FIRST), NEXT)? {
+    for word in chain(0, FIRST, NEXT)? {
         let mut syllables = vec![];
-        for syllable in chain(field(word, FIRST), NEXT)? {
-            let phones = chain(field(syllable, FIRST), NEXT)?;
+        for syllable in chain(word, FIRST, NEXT)? {
+            let phones = chain(syllable, FIRST, NEXT)?;
             syllables.push(Syllable { stress: items[syllable][STRESS], phones: texts(&phones)? });
             met.extend(phones);
         }
-        let text = text(&word)?;
-        words.push(Word { text, syllables });
+        words.push(Word { text: text(&word)?, syllables });
     }
     met.sort();
-    let used = field(0, USED);
     let is_phone = |at: &usize| items.get(*at).is_some_and(|item| item[0] == PHONE);
-    let phones = (1..=used).filter(is_phone);
-    if !phones.eq(met) {
-        return None;
-    }
-    Some(Reading {
-        words,
-        forwards: texts(&chain(field(0, BEHIND), BEHIND)?)?,
-        backwards: texts(&chain(field(0, BEFORE), BEFORE)?)?,
-    })
+    let phones = (1..=number(&items[0][USED..])).filter(is_phone);
+    let forwards = texts(&chain(0, BEHIND, BEHIND)?)?;
+    let backwards = texts(&chain(0, BEFORE, BEFORE)?)?;
+    phones.eq(met).then_some(Reading { words, forwards, backwards })
 }

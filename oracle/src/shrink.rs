@@ -1,68 +1,69 @@
-//! A smaller input that still differs.
+//! Inputs: every short one over some lists, and a smaller one that still differs.
 
 use crate::call::{Call, Expected, Outcome};
 use std::ops::Range;
 use std::time::{Duration, Instant};
 
-/// How many inputs are tried, and for how long.
+/// Every input over lists, in the order of loops in each other, the last the innermost; a `let` names what the loops
+/// so far have in common, and behind the loops stand the inputs of one turn.
+macro_rules! each {
+    (@ $all:ident for $one:pat in $list:expr; $($rest:tt)+) => {
+        for $one in $list {
+            each!(@ $all $($rest)+);
+        }
+    };
+    (@ $all:ident let $name:pat = $value:expr; $($rest:tt)+) => {
+        let $name = $value;
+        each!(@ $all $($rest)+);
+    };
+    (@ $all:ident $inputs:expr) => { $all.extend($inputs) };
+    ($($loops:tt)+) => {{
+        let mut all = vec![];
+        each!(@ all $($loops)+);
+        all
+    }};
+}
+
+/// How many smaller inputs are tried, and for how long.
 const TRIES: usize = 50_000;
 const TIME: Duration = Duration::from_secs(30);
 
-/// A difference: what was expected and what the library did.
-pub struct Difference {
-    pub expected: Expected,
-    pub ours: Outcome,
-}
+/// What is expected of an input, and what the library does.
+pub type Both = (Expected, Outcome);
 
-/// Compares one input; tells what was expected if the library does the same.
-pub fn compare<C: Call>(call: &C, input: &C::Input) -> Result<Expected, Box<Difference>> {
+pub fn both<C: Call>(call: &C, input: &C::Input) -> Both {
     let expected = call.expected(input);
     let ours = call.ours(input, &expected.handed);
-    if expected.outcome.as_ref() == Ok(&ours) {
-        return Ok(expected);
-    }
-    Err(Box::new(Difference { expected, ours }))
+    (expected, ours)
 }
 
-/// A smaller input that differs, and how, if there is one.
-fn step<C: Call>(
-    call: &C,
-    input: &C::Input,
-    tries: &mut usize,
-    started: Instant,
-) -> Option<(C::Input, Box<Difference>)> {
-    for candidate in input.smaller() {
-        *tries += 1;
-        if *tries > TRIES || started.elapsed() > TIME {
-            return None;
-        }
-        if let Err(difference) = compare(call, &candidate) {
-            return Some((candidate, difference));
-        }
-    }
-    None
+/// Whether the library does what is expected.
+pub fn agree((expected, ours): &Both) -> bool {
+    expected.outcome.as_ref() == Ok(ours)
 }
 
-/// Leaves out of an input whatever can go while a difference stays; none if nothing can go.
-pub fn shrink<C: Call>(call: &C, input: &C::Input) -> Option<(C::Input, Box<Difference>)> {
+/// Leaves out of an input whatever can go while a difference stays.
+pub fn shrink<C: Call>(call: &C, input: &C::Input) -> C::Input {
     let (mut tries, started) = (0, Instant::now());
-    let mut best = step(call, input, &mut tries, started)?;
-    while let Some(smaller) = step(call, &best.0, &mut tries, started) {
+    let mut goes_on = |_: &C::Input| {
+        tries += 1;
+        tries <= TRIES && started.elapsed() <= TIME
+    };
+    let mut best = input.clone();
+    let differs = |smaller: &C::Input| !agree(&both(call, smaller));
+    while let Some(smaller) = best.smaller().into_iter().take_while(&mut goes_on).find(differs) {
         best = smaller;
     }
-    Some(best)
+    best
 }
 
 /// Parts of a list to leave out, the longest first; not more than 64 of a length.
 pub fn parts(len: usize) -> Vec<Range<usize>> {
-    let mut parts = vec![];
-    let mut size = len;
-    while size > 0 && len <= 64 * size {
-        let starts = (0..len).step_by(size);
-        parts.extend(starts.map(|start| start..(start + size).min(len)));
-        size /= 2;
+    let sizes = std::iter::successors(Some(len), |size| Some(size / 2));
+    each! {
+        for size in sizes.take_while(|size| *size > 0 && len <= 64 * size);
+        (0..len).step_by(size).map(|start| start..(start + size).min(len))
     }
-    parts
 }
 
 /// A list without a part of it.

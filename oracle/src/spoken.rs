@@ -101,8 +101,7 @@ fn read(utterance: &Utterance) -> Result<Vec<Word>, String> {
     let roots: Vec<ItemId> = chain("SylStructure");
     for (name, found) in [("Word", &roots), ("Syllable", &syllables), ("Segment", &segments)] {
         let forwards = chain(name);
-        let relation = utterance.relation(name);
-        let last = relation.and_then(|relation| utterance.tail(relation));
+        let last = utterance.relation(name).and_then(|relation| utterance.tail(relation));
         let backwards = std::iter::successors(last, |item| utterance.prev(*item));
         let same = forwards.len() == found.len()
             && (forwards.iter().zip(found)).all(|(a, b)| utterance.same_item(*a, *b));
@@ -144,23 +143,17 @@ fn tree(tags: &[&[u8]]) -> Cart {
     const LEAF: u8 = 255;
     let number = |n: usize| (n as u32).to_le_bytes();
     let node = |op: u8, no_branch: usize, value: usize| {
-        let (no, value) = (no_branch as u16, value as u16);
-        [&[0, op], &no.to_le_bytes()[..], &value.to_le_bytes()].concat()
+        [[0, op], (no_branch as u16).to_le_bytes(), (value as u16).to_le_bytes()].concat()
     };
     let text = |text: &[u8]| [&[text.len() as u8], text].concat();
     let mut bytes = [&number(1)[..], &text(TAG.as_bytes())].concat();
     // the last value is for a word that waits for none of them
     let values: Vec<&[u8]> = tags.iter().copied().chain([&b"?"[..]]).collect();
     bytes.extend(number(values.len()));
-    for value in &values {
-        bytes.push(0);
-        bytes.extend(text(value));
-    }
+    bytes.extend(values.iter().flat_map(|value| [vec![0], text(value)].concat()));
     bytes.extend(number(2 * tags.len() + 1));
-    for i in 0..tags.len() {
-        bytes.extend(node(IS, 2 * i + 2, i));
-        bytes.extend(node(LEAF, 0, i));
-    }
+    let question = |i: usize| [node(IS, 2 * i + 2, i), node(LEAF, 0, i)].concat();
+    bytes.extend((0..tags.len()).flat_map(question));
     bytes.extend(node(LEAF, 0, tags.len()));
     Cart::parse(&bytes).expect("the original reads our tree")
 }

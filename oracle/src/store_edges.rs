@@ -45,17 +45,12 @@ pub fn limits() -> Vec<Vec<u8>> {
     all.extend([LARGEST - 1, LARGEST, LARGEST + 1, LARGEST + SLOT].map(|len| vec![0; len]));
     // cut behind its last used slot, and before it
     all.extend([3, 2, 1].map(|slots| good[..slots * SLOT].to_vec()));
-    let full = |count: usize, slots: usize| {
-        let made = |i: usize| {
-            let word = format!("w{i}");
-            add(&word, "", &"k ".repeat(word.len() % 4))
-        };
-        let adds: Vec<Add> = (0..count).map(made).collect();
-        grown(slots, 0x5a, &adds)
-    };
-    all.push(full(127, 128));
-    all.push(full(126, 128));
-    all.push(full(2, 3));
+    // every slot used, or all but one
+    for (count, slots) in [(127, 128), (126, 128), (2, 3)] {
+        let words = (0..count).map(|i| format!("w{i}"));
+        let adds = words.map(|word| add(&word, "", &"k ".repeat(word.len() % 4)));
+        all.push(grown(slots, 0x5a, &adds.collect::<Vec<Add>>()));
+    }
     // longest texts
     let longest = add(&"w".repeat(47), &"t".repeat(47), &"brth ".repeat(24));
     all.push(grown(2, 0, &[longest]));
@@ -69,68 +64,50 @@ pub fn limits() -> Vec<Vec<u8>> {
 fn odd() -> Vec<Vec<u8>> {
     let good = good();
     let chain = stores::read(&good).expect("the store is sound");
-    let mut all = vec![];
-    let mut change = |change: &dyn Fn(&mut Placed)| {
-        let mut chain = chain.clone();
-        change(&mut chain[0]);
-        all.push(stores::write(&good, &chain));
-    };
-    change(&|p| p.entry.tag = 0);
-    change(&|p| p.entry.tag = 127);
-    change(&|p| p.entry.tag = b'N');
-    change(&|p| p.entry.word = b"a: #\"\0".to_vec());
-    change(&|p| p.entry.word = vec![127; 47]);
-    change(&|p| p.entry.word = b"lead".to_vec());
-    change(&|p| p.entry.word = b"[@`{".to_vec());
-    change(&|p| p.entry.phones = vec![b"abcdefghijklmno".to_vec(), vec![], vec![127, 0]]);
+    let tags = with(&chain, [0, 127, b'N'], |chain, tag| chain[0].entry.tag = tag);
+    let words = [&b"a: #\"\0"[..], &[127; 47], b"lead", b"[@`{"];
+    let words = with(&chain, words, |chain, word| chain[0].entry.word = word.to_vec());
+    let phones = vec![b"abcdefghijklmno".to_vec(), vec![], vec![127, 0]];
+    let phones = with(&chain, [phones], |chain, phones| chain[0].entry.phones = phones);
     // a longer length over zero bytes is a longer word
-    let mut longer = good.clone();
-    longer[SLOT + 3] = 47;
-    all.push(longer);
-    all
+    let longer = records::with_byte(&good, SLOT + 3, 47);
+    let chains = [tags, words, phones].concat();
+    chains.iter().map(|chain| stores::write(&good, chain)).chain([longer]).collect()
 }
 
 /// Stores that break one part of what sound means, where altering one byte does not do it.
 fn unsound() -> Vec<Vec<u8>> {
     let good = good();
-    let mut all = vec![];
-    let mut change = |change: &dyn Fn(&mut Vec<u8>)| {
-        let mut store = good.clone();
-        change(&mut store);
-        all.push(store);
-    };
-    // one key in both slots; one word in both
-    change(&|s| s.copy_within(SLOT + 2..SLOT + 51, 2 * SLOT + 2));
-    change(&|s| s.copy_within(SLOT + 3..SLOT + 51, 2 * SLOT + 3));
     // a chain without an end, one that misses a slot, one that leaves the used slots
-    change(&|s| s[SLOT] = 2);
-    change(&|s| s[4] = 3);
-    change(&|s| s[4] = 1);
-    change(&|s| s[4] = 0);
-    change(&|s| s[5] = 1);
-    change(&|s| s[SLOT] = 3);
-    change(&|s| s[SLOT + 1] = 255);
-    change(&|s| s[..6].fill(0));
-    change(&|s| s[2] = 2);
-    // the third slot linked, but not used
-    change(&|s| {
-        s.copy_within(2 * SLOT..3 * SLOT, 3 * SLOT);
-        s[3 * SLOT + 2] = b'z';
-        s[SLOT] = 3;
-        s[2] = 3;
-    });
-    // the third slot in the place of the first, whose entry it has
-    change(&|s| {
-        s.copy_within(SLOT..2 * SLOT, 3 * SLOT);
-        s[2 * SLOT] = 3;
-        s[2] = 3;
-    });
-    // a word of 48 bytes, over its neighbour; 25 phones
-    change(&|s| {
-        s[SLOT + 3] = 48;
-        s[SLOT + 4..SLOT + 52].fill(b'w');
-    });
-    change(&|s| s[SLOT + 51] = 25);
+    let links = [(SLOT, 2), (4, 3), (4, 1), (4, 0), (5, 1), (SLOT, 3), (SLOT + 1, 255), (2, 2)];
+    let mut all = Vec::from(links.map(|(at, byte)| records::with_byte(&good, at, byte)));
+    let changes: [fn(&mut Vec<u8>); 7] = [
+        // one key in both slots; one word in both
+        |s| s.copy_within(SLOT + 2..SLOT + 51, 2 * SLOT + 2),
+        |s| s.copy_within(SLOT + 3..SLOT + 51, 2 * SLOT + 3),
+        // entries that slot 0 does not know of
+        |s| s[..6].fill(0),
+        // the third slot linked, but not used
+        |s| {
+            s.copy_within(2 * SLOT..3 * SLOT, 3 * SLOT);
+            s[3 * SLOT + 2] = b'z';
+            s[SLOT] = 3;
+            s[2] = 3;
+        },
+        // the third slot in the place of the first, whose entry it has
+        |s| {
+            s.copy_within(SLOT..2 * SLOT, 3 * SLOT);
+            s[2 * SLOT] = 3;
+            s[2] = 3;
+        },
+        // a word of 48 bytes, over its neighbour; 25 phones
+        |s| {
+            s[SLOT + 3] = 48;
+            s[SLOT + 4..SLOT + 52].fill(b'w');
+        },
+        |s| s[SLOT + 51] = 25,
+    ];
+    all.extend(with(&good, changes, |store, change| change(store)));
     all
 }
 

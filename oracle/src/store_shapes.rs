@@ -3,6 +3,7 @@
 use crate::prelude::*;
 use crate::records::put;
 use crate::stores::{Placed, LARGEST};
+use crate::tables::first_fit;
 
 /// A sound store beside a lexicon that has its form, grown by adds over some words.
 pub fn random(random: &mut Random, empty: &Scene, words: &[Vec<u8>], phones: &Phones) -> Vec<u8> {
@@ -25,8 +26,7 @@ pub fn of_size(
     // a large store takes more words than a pool has
     let any = adds > 24;
     let adds: Vec<Add> = (0..adds).map(|_| add(random, empty, words, phones, any)).collect();
-    let new = empty.with_store(stores::new(slots, 0));
-    let mut store = new.grown(&adds);
+    let mut store = empty.with_store(stores::new(slots, 0)).grown(&adds);
     if random.once_in(4) {
         store = renumbered(random, &store);
     }
@@ -52,15 +52,10 @@ pub fn add(
         word.truncate(words::LONGEST - 3);
         word.extend(random.bytes(3).iter().map(|b| b & 127));
     }
-    let mut tag = words::tag(random);
-    while words::is_refused(&tag) {
-        tag = words::tag(random);
-    }
+    let tag = first_fit(|| words::tag(random), |tag| !words::is_refused(tag));
     let count = random.ranged(&[(1, 0, 0), (10, 1, 5), (2, 6, 24), (1, 24, 24)]);
-    Add {
-        wanted: Wanted::new(words::recased(random, &word), tag),
-        phones: List::of(&known(random, scene, phones, count)),
-    }
+    let wanted = Wanted::new(words::recased(random, &word), tag);
+    Add { wanted, phones: List::of(&known(random, scene, phones, count)) }
 }
 
 /// An entry that can be added, of a size that a list can hold.
@@ -100,23 +95,15 @@ fn odd(random: &mut Random, store: &[u8], phones: &Phones) -> Vec<u8> {
             0 => entry.tag = random.byte() & 127,
             1 => {
                 let at = random.below(entry.word.len() + 1);
-                let byte = random.pick_byte(b"\0 :#\"\x7f");
-                entry.word.insert(at, byte);
+                entry.word.insert(at, random.pick_byte(b"\0 :#\"\x7f"));
                 entry.word.truncate(words::LONGEST);
             }
-            _ => {
-                for phone in &mut entry.phones {
-                    *phone = phones.phone(random);
-                }
-            }
+            _ => entry.phones.fill_with(|| phones.phone(random)),
         }
     }
     let odd = stores::write(store, &chain);
-    match stores::read(&odd) {
-        Ok(_) => odd,
-        // two keys have become one
-        Err(_) => store.to_vec(),
-    }
+    // it is not sound where two keys have become one
+    stores::read(&odd).map_or(store.to_vec(), |_| odd)
 }
 
 /// Fills the slots past the used ones.
@@ -136,29 +123,21 @@ pub fn damaged(random: &mut Random, store: &[u8]) -> Vec<u8> {
             store.resize(lengths[random.below(5)], 0);
         }
         1 => store.truncate(SLOT * random.below(slots)),
-        2 => link(random, &mut store, slots),
+        2 => {
+            // a field of slot 0
+            let field = 2 * random.below(3);
+            let link = [random.below(slots + 2), 65_535, 256][random.weighted(&[8, 1, 1])];
+            put(&mut store, field, link);
+        }
         3 => put(&mut store, slot, random.below(used + 2)),
         4 if used > 1 => {
             // the key of another slot
             let other = SLOT * random.between(1, used);
             store.copy_within(other + 2..other + 51, slot + 2);
         }
-        5 => store[slot + random.between(4, 12)] = random.pick_byte(b"AZMN@["),
-        6 => store[slot + 3] = random.pick_byte(&[0, 1, 2, 20, 46, 47, 48, 49, 127, 128, 255]),
-        7 => store[slot + 51] = random.pick_byte(&[0, 1, 2, 23, 24, 25, 26, 128, 255]),
-        8 => {
-            let cell = slot + 64 + 16 * random.below(5);
-            store[cell] = random.pick_byte(&[0, 1, 2, 14, 15, 16, 17, 128, 255]);
-        }
-        9 => store[slot + 2] = random.byte(),
-        10 => store[slot + random.between(2, 120)] |= 128,
-        11 => store[slot + random.below(SLOT)] = random.byte(),
-        12 => {
-            let zero = [6, 50, 52, 63, 63, 447, 448, 511][random.below(8)];
-            store[slot + zero] = random.between(1, 255) as u8;
-        }
+        way @ 5..=12 => damage_slot(random, &mut store[slot..][..SLOT], way),
         13 if used > 0 && used + 1 < slots => {
-            let links = (0..=used).map(|slot| SLOT * slot).chain([2]);
+            let links = (0..=used).map(|slot| SLOT * slot).chain([2]).collect();
             records::in_place_of(&mut store, SLOT, [slot / SLOT, used + 1], links);
         }
         _ => {
@@ -169,11 +148,24 @@ pub fn damaged(random: &mut Random, store: &[u8]) -> Vec<u8> {
     store
 }
 
-/// Another number in a field of slot 0, or in a slot's link.
-fn link(random: &mut Random, store: &mut [u8], slots: usize) {
-    let at = [0, 2, 4][random.below(3)];
-    let value = [random.below(slots + 2), 65_535, 256][random.weighted(&[8, 1, 1])];
-    put(store, at, value);
+/// Alters a field of a slot, or any byte of it, in one of the ways.
+fn damage_slot(random: &mut Random, slot: &mut [u8], way: usize) {
+    match way {
+        5 => slot[random.between(4, 12)] = random.pick_byte(b"AZMN@["),
+        6 => slot[3] = random.pick_byte(&[0, 1, 2, 20, 46, 47, 48, 49, 127, 128, 255]),
+        7 => slot[51] = random.pick_byte(&[0, 1, 2, 23, 24, 25, 26, 128, 255]),
+        8 => {
+            let cell = 64 + 16 * random.below(5);
+            slot[cell] = random.pick_byte(&[0, 1, 2, 14, 15, 16, 17, 128, 255]);
+        }
+        9 => slot[2] = random.byte(),
+        10 => slot[random.between(2, 120)] |= 128,
+        11 => slot[random.below(SLOT)] = random.byte(),
+        _ => {
+            let zero = [6, 50, 52, 63, 63, 447, 448, 511][random.below(8)];
+            slot[zero] = random.between(1, 255) as u8;
+        }
+    }
 }
 
 /// Sound stores with something left out, for shrinking; of an unsound one, with bytes made zero.
@@ -181,25 +173,18 @@ pub fn smaller(store: &[u8]) -> Vec<Vec<u8>> {
     let Ok(chain) = stores::read(store) else {
         return records::plainer(store, SLOT, 4);
     };
-    let rewritten = |chain: &[Placed]| {
-        let mut chain = chain.to_vec();
+    let rewritten = |chain: &Vec<Placed>| {
         // the slots stay in their order
-        let mut slots: Vec<usize> = chain.iter().map(|placed| placed.slot).collect();
-        slots.sort();
-        for placed in &mut chain {
-            placed.slot = 1 + slots.binary_search(&placed.slot).unwrap_or(0);
-        }
-        stores::write(store, &chain)
+        let before = |slot: usize| chain.iter().filter(|other| other.slot < slot).count();
+        let placed = |placed: &Placed| Placed { slot: 1 + before(placed.slot), ..placed.clone() };
+        stores::write(store, &chain.iter().map(placed).collect::<Vec<_>>())
     };
-    let fewer = chain.smaller();
-    let mut all: Vec<Vec<u8>> = fewer.iter().map(|chain| rewritten(chain)).collect();
+    let mut all: Vec<Vec<u8>> = chain.smaller().iter().map(rewritten).collect();
     let from = stores::unused(store);
     let lengths = [from, from + SLOT, from + 2 * SLOT];
     all.extend(records::less_behind(store, from, &lengths));
-    let mut ordered = chain.clone();
-    for (slot, placed) in (1..).zip(&mut ordered) {
-        placed.slot = slot;
-    }
+    let placed = |(slot, placed): (usize, &Placed)| Placed { slot, ..placed.clone() };
+    let ordered: Vec<Placed> = (1..).zip(&chain).map(placed).collect();
     if ordered != chain {
         all.push(rewritten(&ordered));
     }

@@ -73,11 +73,8 @@ fn read_slot(slot: &[u8]) -> Result<Entry, &'static str> {
     of_slot(slot)?;
     let cells = slot[PHONES..].chunks(CELL).take(slot[COUNT].into());
     let phone = |bytes: &[u8]| of_phone(bytes).map(|()| bytes[1..][..bytes[0].into()].to_vec());
-    Ok(Entry {
-        tag: slot[TAG],
-        word: slot[WORD..][..slot[WORD_LEN].into()].to_vec(),
-        phones: cells.map(phone).collect::<Result<_, _>>()?,
-    })
+    let word = slot[WORD..][..slot[WORD_LEN].into()].to_vec();
+    Ok(Entry { tag: slot[TAG], word, phones: cells.map(phone).collect::<Result<_, _>>()? })
 }
 
 checks! { pub UNSOUND:
@@ -148,9 +145,7 @@ pub fn write(store: &[u8], chain: &[Placed]) -> Vec<u8> {
         slot[WORD_LEN] = word.len() as u8;
         slot[WORD..WORD + word.len()].copy_from_slice(word);
         slot[COUNT] = phones.len() as u8;
-        for (phone, place) in phones.iter().zip(slot[PHONES..].chunks_mut(CELL)) {
-            place.copy_from_slice(&cell(phone));
-        }
+        slot[PHONES..][..CELL * phones.len()].copy_from_slice(&cells(phones));
     }
     store
 }

@@ -1,6 +1,7 @@
 //! Phone tables, which lexicons and letter trees have alike.
 
 use crate::random::Random;
+use std::ops::Range;
 
 /// Three sections as bytes: a phone table, an index, and what it leads to.
 macro_rules! sections {
@@ -29,22 +30,15 @@ macro_rules! sections {
 
 /// The strings of a phone table that has 01's form.
 pub fn phone_names(table: &[u8]) -> Option<Vec<Vec<u8>>> {
-    let count = u32::from_le_bytes(table.get(..4)?.try_into().ok()?);
-    if count > 256 {
-        return None;
-    }
-    let mut names = vec![];
-    let mut rest = &table[4..];
-    for _ in 0..count {
-        let len = usize::from(*rest.first()?);
-        let name = rest.get(1..1 + len)?;
-        if len > 15 || !name.is_ascii() {
-            return None;
-        }
-        names.push(name.to_vec());
-        rest = &rest[1 + len..];
-    }
-    Some(names)
+    let (count, mut rest) = table.split_first_chunk()?;
+    let name = |_| {
+        let (len, behind) = rest.split_first()?;
+        let (name, behind) = behind.split_at_checked(usize::from(*len))?;
+        rest = behind;
+        (name.len() <= 15 && name.is_ascii()).then(|| name.to_vec())
+    };
+    let count = u32::from_le_bytes(*count);
+    (count <= 256).then(|| (0..count).map(name).collect()).flatten()
 }
 
 /// A phone table of these names.
@@ -59,28 +53,23 @@ pub fn phone_table<T: AsRef<[u8]>>(names: &[T]) -> Vec<u8> {
 
 /// A table with changes that keep 01's form, or just break it.
 pub fn limits(good: &[u8]) -> Vec<Vec<u8>> {
-    let counted = |count: [u8; 4]| [&count[..], &good[4..]].concat();
-    vec![
-        vec![],
-        good[..3].to_vec(),
-        phone_table::<Vec<u8>>(&[]),
-        phone_table(&[[b'p'; 15]]),
-        phone_table(&[[b'p'; 16]]),
-        phone_table(&[[127]]),
-        phone_table(&[[128]]),
-        phone_table(&["\u{e9}"]),
-        phone_table(&["p"; 256]),
-        phone_table(&["p"; 257]),
-        [good, &[16, 200, 255]].concat(),
-        counted([0, 0, 0, 1]),
-        counted([255; 4]),
-    ]
+    let names = [&[b'p'; 15][..], &[b'p'; 16], &[127], &[128], "\u{e9}".as_bytes()];
+    let mut all = vec![vec![], good[..3].to_vec(), [good, &[16, 200, 255]].concat()];
+    all.extend(names.map(|name| phone_table(&[name])));
+    all.extend([0, 256, 257].map(|count| phone_table(&vec!["p"; count])));
+    all.extend([[0, 0, 0, 1], [255; 4]].map(|count| [&count[..], &good[4..]].concat()));
+    all
 }
 
 /// The names of a table.
 pub fn names(random: &mut Random, name: impl Fn(&mut Random) -> Vec<u8>) -> Vec<Vec<u8>> {
     let count = random.ranged(&[(1, 0, 0), (2, 1, 1), (12, 2, 12), (8, 13, 80), (2, 256, 256)]);
     (0..count).map(|_| name(random)).collect()
+}
+
+/// The first that fits of things made one after the other.
+pub fn first_fit<T>(make: impl FnMut() -> T, fits: impl Fn(&T) -> bool) -> T {
+    std::iter::repeat_with(make).find(fits).expect("one is made that fits")
 }
 
 /// How many ways there are to break a table.
@@ -90,10 +79,7 @@ pub const BREAKS: usize = 4;
 pub fn break_form(random: &mut Random, table: &mut Vec<u8>, names: usize, way: usize) {
     match way {
         0 => table.truncate(random.below(table.len() + 1)),
-        1 => {
-            let count = random.between(names + 1, 300) as u32;
-            put(table, 0, &count.to_le_bytes());
-        }
+        1 => put(table, 0, &(random.between(names + 1, 300) as u32).to_le_bytes()),
         2 => put(table, 4, &[random.between(16, 255) as u8]),
         _ => {
             let at = random.below(table.len() + 1);
@@ -110,6 +96,11 @@ pub fn alter(random: &mut Random, mut sections: [(usize, &mut Vec<u8>, usize); 3
         let (_, section, len) = &mut sections[random.weighted(&weights)];
         put(section, random.below(*len), &byte);
     }
+}
+
+/// Where a place is once a part is left out; a place within the part is then the part's start.
+pub fn moved(at: usize, part: &Range<usize>) -> usize {
+    at - (at.clamp(part.start, part.end) - part.start)
 }
 
 /// Writes bytes into a section, where it is long enough.

@@ -1,9 +1,12 @@
 //! How many calls were compared, by answer and by what they met.
 
-use crate::call::{row, Call};
+use crate::call::{row, Call, Expected};
 
 /// The width of the rows' names.
 const WIDTH: usize = 54;
+
+/// Names of rows, each with its count.
+type Rows = Vec<(String, usize)>;
 
 /// The counts of one call's rows.
 pub struct Tally {
@@ -14,36 +17,7 @@ pub struct Tally {
     answers: Rows,
     met: Rows,
     /// How often the original was asked.
-    asked: usize,
-}
-
-struct Rows {
-    names: Vec<String>,
-    counts: Vec<usize>,
-}
-
-impl Rows {
-    fn new(names: impl Iterator<Item = String>) -> Rows {
-        let names: Vec<String> = names.collect();
-        Rows { counts: vec![0; names.len()], names }
-    }
-
-    fn add(&mut self, name: &str) {
-        let row = self.names.iter().position(|n| *n == name);
-        self.counts[row.unwrap_or_else(|| panic!("the table has no row {name}"))] += 1;
-    }
-
-    fn print(&self, indent: &str) {
-        for (name, count) in self.names.iter().zip(&self.counts) {
-            let name = format!("{indent}{name}");
-            println!("{name:<WIDTH$}{:>12}", grouped(*count));
-        }
-    }
-
-    fn empty(&self) -> impl Iterator<Item = &String> {
-        let rows = self.names.iter().zip(&self.counts);
-        rows.filter(|(_, count)| **count == 0).map(|(name, _)| name)
-    }
+    pub asked: usize,
 }
 
 impl Tally {
@@ -51,30 +25,27 @@ impl Tally {
     pub fn of<C: Call>() -> Tally {
         let answers = C::ANSWERS.iter().map(|answer| answer.to_string());
         let refusals = C::REFUSALS.iter().map(|refusal| row(*refusal, ""));
+        let met = C::MET.concat().concat().into_iter().map(String::from);
         Tally {
             name: C::NAME,
             share: C::SHARE,
             share_recorded: C::SHARE_RECORDED,
-            answers: Rows::new(answers.chain(refusals)),
-            met: Rows::new(C::MET.concat().concat().into_iter().map(String::from)),
+            answers: answers.chain(refusals).map(|name| (name, 0)).collect(),
+            met: met.map(|name| (name, 0)).collect(),
             asked: 0,
         }
     }
 
-    pub fn add(&mut self, asked: bool, answer: &str, met: &[&str]) {
-        self.asked += usize::from(asked);
-        self.answers.add(answer);
-        for name in met {
-            self.met.add(name);
+    pub fn add(&mut self, expected: &Expected) {
+        self.asked += usize::from(expected.asked);
+        count(&mut self.answers, &expected.row);
+        for name in &expected.met {
+            count(&mut self.met, name);
         }
     }
 
     pub fn calls(&self) -> usize {
-        self.answers.counts.iter().sum()
-    }
-
-    pub fn asked(&self) -> usize {
-        self.asked
+        self.answers.iter().map(|row| row.1).sum()
     }
 
     pub fn print(&self) {
@@ -84,29 +55,36 @@ impl Tally {
         };
         let calls = grouped(self.calls());
         println!("{:<WIDTH$}{calls:>12}   {by}", self.name);
-        self.answers.print("  ");
-        if !self.met.names.is_empty() {
+        print("  ", &self.answers);
+        if !self.met.is_empty() {
             println!("  of these, or in these, met:");
-            self.met.print("    ");
+            print("    ", &self.met);
         }
     }
 
     /// The rows that nothing was counted in.
     pub fn empty(&self) -> Vec<String> {
-        let rows = self.answers.empty().chain(self.met.empty());
-        rows.map(|row| format!("{}: {row}", self.name)).collect()
+        let empty = self.answers.iter().chain(&self.met).filter(|row| row.1 == 0);
+        empty.map(|(name, _)| format!("{}: {name}", self.name)).collect()
+    }
+}
+
+fn count(rows: &mut Rows, name: &str) {
+    let row = rows.iter_mut().find(|row| row.0 == name);
+    row.unwrap_or_else(|| panic!("the table has no row {name}")).1 += 1;
+}
+
+fn print(indent: &str, rows: &Rows) {
+    for (name, count) in rows {
+        let name = format!("{indent}{name}");
+        println!("{name:<WIDTH$}{:>12}", grouped(*count));
     }
 }
 
 /// A number with a comma between its thousands.
 pub fn grouped(number: usize) -> String {
-    let digits = number.to_string();
-    let mut text = String::new();
-    for (i, digit) in digits.chars().enumerate() {
-        if i > 0 && (digits.len() - i) % 3 == 0 {
-            text.push(',');
-        }
-        text.push(digit);
+    match number {
+        0..=999 => number.to_string(),
+        _ => format!("{},{:03}", grouped(number / 1_000), number % 1_000),
     }
-    text
 }

@@ -1,13 +1,14 @@
 //! Letter trees of many shapes, and ways to break them.
 
 use crate::prelude::*;
+use crate::records::number;
 use crate::shrink::{parts, without};
-use crate::tables::{self, phone_table, put};
+use crate::tables::{self, first_fit, moved, phone_table, put};
 use crate::trees::{Sections, INDEX, LONGEST_MODEL, NODE};
 use std::ops::Range;
 
 /// A node: a question (feature, wanted byte, next on a match, next otherwise) or a leaf (255, phone number).
-#[derive(Clone, Copy)]
+#[derive(Clone, Copy, PartialEq)]
 pub struct Node {
     pub first: u8,
     pub second: u8,
@@ -17,102 +18,78 @@ pub struct Node {
 
 impl Node {
     pub fn leaf(phone: u8) -> Node {
-        Node::of(&[255, phone, 0, 0, 0, 0])
+        Node { first: 255, second: phone, yes: 0, no: 0 }
     }
 
-    pub fn of(bytes: &[u8]) -> Node {
-        Node {
-            first: bytes[0],
-            second: bytes[1],
-            yes: u16::from_le_bytes([bytes[2], bytes[3]]),
-            no: u16::from_le_bytes([bytes[4], bytes[5]]),
-        }
+    fn of(bytes: &[u8]) -> Node {
+        let [yes, no] = [2, 4].map(|at| number(&bytes[at..]) as u16);
+        Node { first: bytes[0], second: bytes[1], yes, no }
     }
 }
 
 pub fn model(nodes: &[Node]) -> Vec<u8> {
-    let bytes = |n: &Node| {
-        let (yes, no) = (n.yes.to_le_bytes(), n.no.to_le_bytes());
-        [n.first, n.second, yes[0], yes[1], no[0], no[1]]
-    };
-    nodes.iter().flat_map(bytes).collect()
+    let bytes = |n: &Node| [[n.first, n.second], n.yes.to_le_bytes(), n.no.to_le_bytes()];
+    nodes.iter().flat_map(bytes).flatten().collect()
 }
 
 /// Trees before they are written as sections.
-struct Plan {
-    names: Vec<Vec<u8>>,
-    nodes: Vec<Node>,
-    starts: [u16; 26],
-    alphabet: Vec<u8>,
+#[derive(Clone)]
+pub struct Plan {
+    pub names: Vec<Vec<u8>>,
+    pub starts: [u16; 26],
+    pub nodes: Vec<Node>,
 }
 
 impl Plan {
-    fn sections(&self) -> Sections {
-        sections(&self.names, &self.starts, &self.nodes)
-    }
-
-    fn trees(self) -> Trees {
-        Trees::new(self.sections(), self.alphabet)
-    }
-}
-
-/// Sections of these phones, starts and nodes.
-pub fn sections<T: AsRef<[u8]>>(names: &[T], starts: &[u16; 26], nodes: &[Node]) -> Sections {
-    Sections {
-        phones: phone_table(names),
-        index: starts.iter().flat_map(|s| s.to_le_bytes()).collect(),
-        model: model(nodes),
+    pub fn sections(&self) -> Sections {
+        let index = self.starts.iter().flat_map(|start| start.to_le_bytes()).collect();
+        Sections { phones: phone_table(&self.names), index, model: model(&self.nodes) }
     }
 }
 
 /// Any trees; one set in six is broken in some way, of which a word need not notice anything.
 pub fn random(random: &mut Random) -> Trees {
     let shape = random.below(SHAPES);
-    let plan = plan(random, shape, 400);
-    let mut sections = plan.sections();
+    let whole = plan(random, shape, 400);
+    let mut sections = whole.sections.clone();
+    let names = whole.names.as_ref().map_or(0, Vec::len);
     if random.once_in(6) {
-        break_one(random, &mut sections, plan.names.len());
+        break_one(random, &mut sections, names);
     }
     if random.once_in(20) {
-        break_one(random, &mut sections, plan.names.len());
+        break_one(random, &mut sections, names);
     }
     if random.once_in(4) {
         let more = random.between(1, 9);
         sections.phones.extend(random.bytes(more));
         sections.index.extend(random.bytes(more));
     }
-    Trees::new(sections, plan.alphabet)
+    Trees::new(sections, whole.alphabet)
 }
 
 /// Whole trees of one of the shapes, of a size that a list can hold.
 pub fn to_record(random: &mut Random, shape: usize) -> Trees {
-    plan_of(random, shape, 400, 5..usize::MAX).trees()
+    plan_of(random, shape, 400, 5..usize::MAX)
 }
 
 /// Whole trees of a few nodes.
 pub fn few_to_record(random: &mut Random, shape: usize) -> Trees {
-    plan_of(random, shape, 24, 5..40).trees()
+    plan_of(random, shape, 24, 5..40)
 }
 
-/// A plan with so many names and nodes.
-fn plan_of(random: &mut Random, shape: usize, most: usize, size: Range<usize>) -> Plan {
-    loop {
-        let plan = plan(random, shape % SHAPES, most);
-        if size.contains(&plan.names.len()) && size.contains(&plan.nodes.len()) {
-            return plan;
-        }
-    }
+/// Whole trees with so many names and nodes.
+fn plan_of(random: &mut Random, shape: usize, most: usize, size: Range<usize>) -> Trees {
+    let fits = |trees: &Trees| {
+        let names = trees.names.as_ref().map_or(0, Vec::len);
+        size.contains(&names) && size.contains(&trees.nodes())
+    };
+    first_fit(|| plan(random, shape % SHAPES, most), fits)
 }
 
 /// The largest model: a chain over its 65,536 nodes, with so many leaves at the end of it. Half of
 /// the letters go through the whole of it, the others start near its end.
 pub fn deepest(random: &mut Random, leaves: usize) -> Trees {
-    let names = loop {
-        let names = names(random);
-        if names.len() > 1 {
-            break names;
-        }
-    };
+    let names = first_fit(|| names(random), |names| names.len() > 1);
     let count = LONGEST_MODEL / NODE;
     let chain = count - leaves;
     let mut nodes: Vec<Node> =
@@ -120,23 +97,23 @@ pub fn deepest(random: &mut Random, leaves: usize) -> Trees {
     let end = random.between(chain, count - 1);
     nodes.push(question(random, b"abc", end, end));
     nodes.extend((0..leaves).map(|_| leaf(random, names.len())));
-    let near_end = |i: usize| count - 1 - random.below(1 + 4 * i);
     let mut starts = [0; 26];
-    for (i, start) in (0..13).map(near_end).enumerate() {
-        starts[2 * i] = start as u16;
+    for i in 0..13 {
+        starts[2 * i] = (count - 1 - random.below(1 + 4 * i)) as u16;
     }
-    let plan = Plan { names, nodes, starts, alphabet: b"abcdefgh".to_vec() };
-    plan.trees()
+    Trees::new(Plan { names, starts, nodes }.sections(), b"abcdefgh".to_vec())
 }
 
 /// How many shapes there are.
 const SHAPES: usize = 5;
 
-fn plan(random: &mut Random, shape: usize, most: usize) -> Plan {
+/// Whole trees of one of the shapes, with about so many nodes at most.
+fn plan(random: &mut Random, shape: usize, most: usize) -> Trees {
     let names = names(random);
     let alphabet = words::alphabet(random);
     let size = random.ranged(&[(1, 1, 1), (6, 2, 40), (3, 2, most)]);
     let phones = names.len();
+    let mut starts = [0; 26];
     let nodes = match shape {
         0 => (0..size).map(|_| leaf(random, phones)).collect(),
         1 => chain(random, size, &alphabet, phones),
@@ -145,19 +122,26 @@ fn plan(random: &mut Random, shape: usize, most: usize) -> Plan {
             let nodes = downhill(random, size, &alphabet, phones);
             renumbered(random, nodes)
         }
-        _ => vec![],
-    };
-    let (nodes, starts) = match shape {
-        0..=3 => {
-            let mut starts = std::array::from_fn(|_| random.below(nodes.len()) as u16);
-            // mostly from the first node of a chain, so that walks are long
-            let first = starts.iter_mut().step_by(2).filter(|_| shape == 1);
-            first.for_each(|start| *start = 0);
-            (nodes, starts)
+        // a binary tree for each letter, as in the real sections
+        _ => {
+            let mut nodes = vec![];
+            for start in &mut starts {
+                let depth = random.between(0, 4);
+                let depth = if nodes.len() + 64 > most { 0 } else { depth };
+                *start = nodes.len() as u16;
+                nodes.extend(grow(random, nodes.len(), depth, &alphabet, phones));
+            }
+            nodes
         }
-        _ => tree_of_each_letter(random, &alphabet, phones, most),
     };
-    Plan { names, nodes, starts, alphabet }
+    if shape < 4 {
+        starts = std::array::from_fn(|_| random.below(nodes.len()) as u16);
+    }
+    if shape == 1 {
+        // mostly from the first node of a chain, so that walks are long
+        starts.iter_mut().step_by(2).for_each(|start| *start = 0);
+    }
+    Trees::new(Plan { names, starts, nodes }.sections(), alphabet)
 }
 
 /// The names of a phone table.
@@ -181,46 +165,34 @@ fn name(random: &mut Random) -> Vec<u8> {
         2 => format!("{}-{}", random.pick(&known), random.pick(&known)).into(),
         3 => format!("{}1-{}0", random.pick(&known), random.pick(&known)).into(),
         4 => random.pick(&ODD_NAMES.split(',').collect::<Vec<_>>()).into(),
-        _ => {
-            let len = random.between(0, 15);
-            (0..len).map(|_| random.below(128) as u8).collect()
-        }
+        _ => (0..random.between(0, 15)).map(|_| random.below(128) as u8).collect(),
     }
 }
 
 /// A leaf; the bytes behind its number may be anything.
 fn leaf(random: &mut Random, phones: usize) -> Node {
-    Node {
-        first: 255,
-        second: random.below(phones.max(1)) as u8,
-        yes: random.below(65_536) as u16,
-        no: random.below(65_536) as u16,
-    }
+    let second = random.below(phones.max(1)) as u8;
+    let [yes, no] = [(); 2].map(|()| random.below(65_536) as u16);
+    Node { first: 255, second, yes, no }
 }
 
 /// A question, one in seven of them one that never matches.
 fn question(random: &mut Random, alphabet: &[u8], yes: usize, no: usize) -> Node {
-    let first = match random.once_in(7) {
-        true => random.between(8, 254) as u8,
-        false => random.below(8) as u8,
-    };
+    let first = if random.once_in(7) { random.between(8, 254) } else { random.below(8) };
     let second = match random.weighted(&[8, 2, 2, 1]) {
         0 => random.pick_byte(alphabet).to_ascii_lowercase(),
         1 => random.pick_byte(b"#0"),
         2 => random.pick_byte(alphabet),
         _ => random.byte(),
     };
-    Node { first, second, yes: yes as u16, no: no as u16 }
+    Node { first: first as u8, second, yes: yes as u16, no: no as u16 }
 }
 
 /// Questions that lead from each node to the next, and now and then to one further on; leaves at the end.
 fn chain(random: &mut Random, size: usize, alphabet: &[u8], phones: usize) -> Vec<Node> {
     let mut nodes = vec![];
     for i in 0..size - 1 {
-        let yes = match random.once_in(3) {
-            true => random.between(i + 1, size - 1),
-            false => i + 1,
-        };
+        let yes = if random.once_in(3) { random.between(i + 1, size - 1) } else { i + 1 };
         nodes.push(question(random, alphabet, yes, i + 1));
     }
     nodes.push(leaf(random, phones));
@@ -233,8 +205,7 @@ fn downhill(random: &mut Random, size: usize, alphabet: &[u8], phones: usize) ->
         if i + 1 == size || random.once_in(4) {
             return leaf(random, phones);
         }
-        let yes = random.between(i + 1, size - 1);
-        let no = random.between(i + 1, size - 1);
+        let [yes, no] = [(); 2].map(|()| random.between(i + 1, size - 1));
         question(random, alphabet, yes, no)
     };
     (0..size).map(node).collect()
@@ -252,39 +223,16 @@ fn renumbered(random: &mut Random, nodes: Vec<Node>) -> Vec<Node> {
     to
 }
 
-/// A binary tree for each letter, as in the real sections.
-fn tree_of_each_letter(
-    random: &mut Random,
-    alphabet: &[u8],
-    phones: usize,
-    most: usize,
-) -> (Vec<Node>, [u16; 26]) {
-    let mut nodes = vec![];
-    let mut starts = [0; 26];
-    for start in &mut starts {
-        let depth = random.between(0, 4);
-        let depth = if nodes.len() + 64 > most { 0 } else { depth };
-        *start = nodes.len() as u16;
-        grow(random, &mut nodes, depth, alphabet, phones);
+/// A binary tree of a depth, whose first node is the one of this number.
+fn grow(random: &mut Random, at: usize, depth: usize, alphabet: &[u8], phones: usize) -> Vec<Node> {
+    let leaf = leaf(random, phones);
+    if depth == 0 {
+        return vec![leaf];
     }
-    (nodes, starts)
-}
-
-fn grow(
-    random: &mut Random,
-    nodes: &mut Vec<Node>,
-    depth: usize,
-    alphabet: &[u8],
-    phones: usize,
-) -> usize {
-    let at = nodes.len();
-    nodes.push(leaf(random, phones));
-    if depth > 0 {
-        let yes = grow(random, nodes, depth - 1, alphabet, phones);
-        let no = grow(random, nodes, depth - 1, alphabet, phones);
-        nodes[at] = question(random, alphabet, yes, no);
-    }
-    at
+    let yes = grow(random, at + 1, depth - 1, alphabet, phones);
+    let behind = at + 1 + yes.len();
+    let no = grow(random, behind, depth - 1, alphabet, phones);
+    [vec![question(random, alphabet, at + 1, behind)], yes, no].concat()
 }
 
 /// Breaks the form of a section, damages a tree, makes a circle, or alters any byte.
@@ -335,52 +283,38 @@ impl Shrink for Rc<Trees> {
 
 /// Nodes or phones left out, leaves in the place of questions, starts at the first node.
 fn fewer_nodes(trees: &Trees, names: &[Vec<u8>]) -> Vec<Sections> {
-    let sections = &trees.sections;
-    let mut all = vec![];
-    if sections.index.len() > INDEX {
-        all.push(sections.clone());
-        all[0].index.truncate(INDEX);
-    }
-    let nodes: Vec<Node> = sections.model.chunks(NODE).map(Node::of).collect();
-    let starts: [u16; 26] = std::array::from_fn(|i| trees.start(b'a' + i as u8) as u16);
-    for part in parts(nodes.len()) {
-        let moved = |link: u16| match usize::from(link) {
-            at if at >= part.end => link - part.len() as u16,
-            at if at > part.start => part.start as u16,
-            _ => link,
-        };
-        let mut kept = without(&nodes, &part);
-        for node in &mut kept {
-            node.yes = moved(node.yes);
-            node.no = moved(node.no);
+    let given = &trees.sections;
+    let longer = (given.index.len() > INDEX).then_some(INDEX);
+    let shorter = with(given, longer, |sections, len| sections.index.truncate(len));
+    let plan = Plan {
+        names: names.to_vec(),
+        starts: std::array::from_fn(|i| trees.start(b'a' + i as u8) as u16),
+        nodes: given.model.chunks(NODE).map(Node::of).collect(),
+    };
+    let nodes = with(&plan, parts(plan.nodes.len()), |plan, part| {
+        let moved = |link: u16| moved(link.into(), &part) as u16;
+        plan.starts = plan.starts.map(moved);
+        plan.nodes = without(&plan.nodes, &part);
+        for node in &mut plan.nodes {
+            (node.yes, node.no) = (moved(node.yes), moved(node.no));
         }
-        all.push(self::sections(names, &starts.map(moved), &kept));
-    }
-    for part in parts(names.len()) {
-        let mut nodes = nodes.clone();
-        for node in nodes.iter_mut().filter(|node| node.first == 255) {
+    });
+    let phones = with(&plan, parts(names.len()), |plan, part| {
+        plan.names = without(names, &part);
+        for node in plan.nodes.iter_mut().filter(|node| node.first == 255) {
             match usize::from(node.second) {
                 number if number >= part.end => node.second -= part.len() as u8,
                 number if number >= part.start => node.second = 0,
                 _ => {}
             }
         }
-        all.push(self::sections(&without(names, &part), &starts, &nodes));
-    }
-    if nodes.len() <= 64 {
-        for i in 0..nodes.len() {
-            let mut nodes = nodes.clone();
-            let plain = Node::leaf(nodes[i].second * u8::from(nodes[i].first == 255));
-            if model(&nodes[i..=i]) != model(&[plain]) {
-                nodes[i] = plain;
-                all.push(self::sections(names, &starts, &nodes));
-            }
-        }
-    }
-    for i in (0..26).filter(|i| starts[*i] != 0) {
-        let mut starts = starts;
-        starts[i] = 0;
-        all.push(self::sections(names, &starts, &nodes));
-    }
-    all
+    });
+    let plain = |node: Node| Node::leaf(node.second * u8::from(node.first == 255));
+    let few = plan.nodes.len() <= 64;
+    let others = (0..plan.nodes.len()).filter(|i| few && plan.nodes[*i] != plain(plan.nodes[*i]));
+    let leaves = with(&plan, others, |plan, i| plan.nodes[i] = plain(plan.nodes[i]));
+    let others = (0..26).filter(|i| plan.starts[*i] != 0);
+    let starts = with(&plan, others, |plan, i| plan.starts[i] = 0);
+    let fewer = [nodes, phones, leaves, starts].into_iter().flatten();
+    shorter.into_iter().chain(fewer.map(|plan| plan.sections())).collect()
 }

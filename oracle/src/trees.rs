@@ -28,17 +28,12 @@ pub struct Trees {
 
 impl Trees {
     pub fn new(sections: Sections, alphabet: Vec<u8>) -> Trees {
-        let names = form(&sections);
-        let original = names.as_ref();
-        let original = original.map(|_| hold(&sections.parts(), Lts::parse));
-        let count = names.as_ref().map_or(0, Vec::len);
-        Trees {
-            has_damage: has_damage(&sections.model, count),
-            sections,
-            alphabet,
-            names,
-            original,
-        }
+        let model = sections.model.len();
+        let fits = sections.index.len() >= INDEX && model % NODE == 0 && model <= LONGEST_MODEL;
+        let names = phone_names(&sections.phones).filter(|_| fits);
+        let original = names.as_ref().map(|_| hold(&sections.parts(), Lts::parse));
+        let has_damage = has_damage(&sections.model, names.as_ref().map_or(0, Vec::len));
+        Trees { sections, alphabet, names, has_damage, original }
     }
 
     /// The original's reading of sections that have their form.
@@ -54,8 +49,7 @@ impl Trees {
 
     /// The node where a letter starts.
     pub fn start(&self, letter: u8) -> usize {
-        let at = 2 * usize::from(letter - b'a');
-        number(&self.sections.index[at..])
+        number(&self.sections.index[2 * usize::from(letter - b'a')..])
     }
 
     /// Goes from a node to a leaf, by 01's rule.
@@ -65,27 +59,17 @@ impl Trees {
         while walk.nodes < self.nodes() && at < self.nodes() {
             walk.nodes += 1;
             let node = &self.sections.model[NODE * at..];
-            let next = match node[0] {
-                255 => {
-                    walk.leaf = Some(usize::from(node[1]));
-                    return walk;
-                }
-                feature @ 0..=7 => {
-                    let matched = features[usize::from(feature)] == node[1];
-                    walk.matched |= matched;
-                    walk.other |= !matched;
-                    if matched {
-                        &node[2..]
-                    } else {
-                        &node[4..]
-                    }
-                }
-                8..=254 => {
-                    walk.never = true;
-                    &node[4..]
-                }
-            };
-            at = number(next);
+            if node[0] == 255 {
+                walk.leaf = Some(usize::from(node[1]));
+                break;
+            }
+            // a question about a feature that there is not never matches
+            let feature = features.get(usize::from(node[0]));
+            let matched = feature == Some(&node[1]);
+            walk.matched |= matched;
+            walk.other |= feature.is_some() && !matched;
+            walk.never |= feature.is_none();
+            at = number(if matched { &node[2..] } else { &node[4..] });
         }
         walk
     }
@@ -100,15 +84,6 @@ pub struct Walk {
     pub matched: bool,
     pub other: bool,
     pub never: bool,
-}
-
-/// The phones of the table, if all three sections have 01's form.
-fn form(sections: &Sections) -> Option<Vec<Vec<u8>>> {
-    let model = sections.model.len();
-    if sections.index.len() < INDEX || model % NODE != 0 || model > LONGEST_MODEL {
-        return None;
-    }
-    phone_names(&sections.phones)
 }
 
 fn has_damage(model: &[u8], phones: usize) -> bool {

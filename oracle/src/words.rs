@@ -6,15 +6,10 @@ use crate::prelude::*;
 pub const LONGEST: usize = 47;
 
 const LETTERS: &[u8] = b"abcdefghijklmnopqrstuvwxyz";
-const ALPHABETS: [&[u8]; 7] = [
-    b"ab",
-    b"abc#",
-    b"aeinst",
-    LETTERS,
-    b"abcdefghijklmnopqrstuvwxyzABCDEFGHIJKLMNOPQRSTUVWXYZ",
-    b"abcdeinstABCDEINST0123456789'-#",
-    b"zaeiouynmNM#'- 09AZ@[`{",
-];
+/// Alphabets, parted by commas.
+const ALPHABETS: &str = "ab,abc#,aeinst,abcdefghijklmnopqrstuvwxyz,\
+    abcdefghijklmnopqrstuvwxyzABCDEFGHIJKLMNOPQRSTUVWXYZ,\
+    abcdeinstABCDEINST0123456789'-#,zaeiouynmNM#'- 09AZ@[`{";
 
 /// A word and its tag, as a call is given them.
 #[derive(Clone, PartialEq, Eq)]
@@ -51,10 +46,9 @@ pub fn word_part(word: &[u8]) -> Part<'_> {
 
 /// Letters that a set of tables and its words share, so that questions match; now and then all of ASCII.
 pub fn alphabet(random: &mut Random) -> Vec<u8> {
-    match random.below(ALPHABETS.len() + 1) {
-        i if i < ALPHABETS.len() => ALPHABETS[i].to_vec(),
-        _ => (0..128).collect(),
-    }
+    let alphabets: Vec<&str> = ALPHABETS.split(',').collect();
+    let chosen = alphabets.get(random.below(alphabets.len() + 1));
+    chosen.map_or_else(|| (0..128).collect(), |letters| Vec::from(*letters))
 }
 
 /// Whether a word is refused by 3.
@@ -124,11 +118,8 @@ pub fn recased(random: &mut Random, word: &[u8]) -> Vec<u8> {
     if random.once_in(2) {
         return word.to_vec();
     }
-    let recase = |b: &u8| match random.once_in(3) {
-        true => b ^ (u8::from(b.is_ascii_alphabetic()) << 5),
-        false => *b,
-    };
-    word.iter().map(recase).collect()
+    let recased = |b: &u8| b ^ (u8::from(random.once_in(3) && b.is_ascii_alphabetic()) << 5);
+    word.iter().map(recased).collect()
 }
 
 /// A word near one of some others, or one of them; one in forty is refused.
@@ -151,23 +142,21 @@ pub fn near(random: &mut Random, words: &[Vec<u8>]) -> Vec<u8> {
 /// Every word up to a length over an alphabet, or every list of phones over some.
 pub fn every<T: Clone>(alphabet: &[T], longest: usize) -> Vec<Vec<T>> {
     let mut words = vec![vec![]];
-    let mut last = words.clone();
-    for _ in 0..longest {
-        let longer = |word: &Vec<T>| {
-            let word = word.clone();
-            alphabet.iter().map(move |b| [&word[..], &[b.clone()]].concat())
-        };
-        last = last.iter().flat_map(longer).collect();
-        words.extend(last.iter().cloned());
+    let mut at = 0;
+    while at < words.len() && words[at].len() < longest {
+        for letter in alphabet {
+            words.push([&words[at][..], &[letter.clone()]].concat());
+        }
+        at += 1;
     }
     words
 }
 
 /// Words at 01's limits.
 pub fn edges() -> Vec<Vec<u8>> {
-    let plain = "a A z Z a# #a a#b # ## ab ba tempo#two two a%a a#7 don't _a in , Email @ [ ` {";
+    // the first is the empty one
+    let plain = " a A z Z a# #a a#b # ## ab ba tempo#two two a%a a#7 don't _a in , Email @ [ ` {";
     let mut words: Vec<Vec<u8>> = plain.split(' ').map(Vec::from).collect();
-    words.insert(0, vec![]);
     for len in [46, 47, 48, 49, 255, 256] {
         words.push(vec![b'a'; len]);
         words.push(LETTERS.iter().cycle().take(len).copied().collect());

@@ -3,50 +3,64 @@
 use crate::prelude::*;
 
 /// What a store has that both adds count.
-pub const STORE_ORDER: Rows =
-    &["store in another order than its slots", "anything in unused slots"];
+pub const STORE_ORDER: &[Rows] =
+    &[&["store in another order than its slots", "anything in unused slots"]];
 
-/// A store beside its phone table, and words to add.
+/// What adds are made of: a store beside its phone table, words to add, and phones.
 pub struct Pool {
     pub scene: Rc<Scene>,
     pub words: Vec<Vec<u8>>,
+    pub phones: Rc<Phones>,
 }
 
 impl Pool {
-    /// A phone table beside the smallest store, and words over an alphabet, or over any.
-    pub fn new(random: &mut Random, phones: &Phones, alphabet: Option<&[u8]>) -> Pool {
-        let lexicon = Rc::new(lexicon_shapes::of_phones(random, phones));
-        let alphabet = alphabet.map_or_else(|| words::alphabet(random), <[u8]>::to_vec);
+    /// A phone table with a store, and words to add over an alphabet; and how many calls they serve. The store is
+    /// new, grown before, or the largest after so many adds: each as often as its weight says.
+    pub fn begin(
+        random: &mut Random,
+        phones: &Rc<Phones>,
+        alphabet: fn(&mut Random) -> Vec<u8>,
+        weights_and_calls: [(usize, usize); 3],
+        adds: fn(&mut Random) -> usize,
+    ) -> (Pool, usize) {
+        let lexicon = lexicon_shapes::of_phones(random, phones);
+        let alphabet = alphabet(random);
         let words = (0..random.between(1, 12)).map(|_| words::accepted(random, &alphabet));
-        Pool { words: words.collect(), scene: Rc::new(Scene::new(&lexicon, stores::new(1, 0))) }
+        let mut words: Vec<Vec<u8>> = words.collect();
+        let empty = Scene::of(lexicon, stores::new(1, 0));
+        let kind = random.weighted(&weights_and_calls.map(|(weight, _)| weight));
+        let store = match kind {
+            0 => {
+                let mut store = stores::new(random.between(1, 12), 0);
+                store_shapes::spoil_unused(random, &mut store);
+                store
+            }
+            1 => store_shapes::random(random, &empty, &words, phones),
+            _ => {
+                let (slots, adds) = (stores::LARGEST / SLOT, adds(random));
+                words.extend((0..200).map(|i| format!("w{i}").into()));
+                store_shapes::of_size(random, &empty, &words, phones, slots, adds)
+            }
+        };
+        let pool = Pool { scene: empty.with_store(store), words, phones: phones.clone() };
+        (pool, weights_and_calls[kind].1)
     }
 
-    /// The same with a store that was grown before.
-    pub fn grown(self, random: &mut Random, phones: &Phones) -> Pool {
-        let store = store_shapes::random(random, &self.scene, &self.words, phones);
-        self.with_store(store)
+    /// An entry that can be added, if there is room for it.
+    pub fn add(&self, random: &mut Random) -> Add {
+        store_shapes::add(random, &self.scene, &self.words, &self.phones, false)
     }
 
-    /// The same with the largest store after so many adds, and words for it.
-    pub fn nearly_full(mut self, random: &mut Random, phones: &Phones, adds: usize) -> Pool {
-        self.words.extend((0..200).map(|i| format!("w{i}").into()));
-        let slots = stores::LARGEST / SLOT;
-        let store = store_shapes::of_size(random, &self.scene, &self.words, phones, slots, adds);
-        self.with_store(store)
-    }
-
-    pub fn with_store(self, store: Vec<u8>) -> Pool {
-        Pool { scene: self.scene.with_store(store), ..self }
+    /// Puts another store in the place of its own.
+    pub fn put(&mut self, store: Vec<u8>) {
+        self.scene = self.scene.with_store(store);
     }
 }
 
 /// Lets the next calls see what a call has left; a full store serves only a few of them.
-pub fn go_on(pool: &mut Served<Pool>, outcome: Result<Outcome, String>, when_full: usize) {
+pub fn go_on(outcome: Result<Outcome, String>, pool: &mut Served<Pool>, when_full: usize) {
     match outcome {
-        Ok(mut outcome) if outcome.answer.refusal == 0 => {
-            let scene = &mut pool.now().scene;
-            *scene = scene.with_store(outcome.written.remove(0));
-        }
+        Ok(mut outcome) if outcome.answer.refusal == 0 => pool.now().put(outcome.written.remove(0)),
         Ok(outcome) if outcome.answer.refusal == 8 => pool.serve_at_most(when_full),
         _ => {}
     }
@@ -61,31 +75,40 @@ pub fn damaged(random: &mut Random, scene: &Rc<Scene>, way: usize) -> Rc<Scene> 
     }
 }
 
-/// Recorded cases on a store that grows: the store at exit stands in a register, and is the next case's.
+/// The phone table of a lexicon, beside a store.
+pub fn table(lexicon: &Lexicon, store: Vec<u8>) -> Rc<Scene> {
+    Rc::new(Scene::new(&Lexicon::of_table(lexicon.sections.phones.clone()), store))
+}
+
+/// Recorded cases in sets, each on a store that grows: the store at exit stands in a register, and is the next case's.
 pub fn record<C: Call>(
     call: &C,
-    mut scene: Rc<Scene>,
+    random: &mut Random,
     cases: usize,
-    mut made: impl FnMut(&Rc<Scene>) -> C::Input,
+    title: &str,
+    made: fn(&mut Random, &Pool) -> C::Input,
+    begin: impl Fn(&mut Random, usize) -> Pool,
 ) -> Vec<String> {
-    let table = &scene.lexicon.sections.phones;
-    let mut lines =
-        vec![register(0, Form::PhoneTable, table), register(1, Form::Store, &scene.store)];
-    let mut at = 1;
-    for _ in 0..cases {
-        let (case, expected) = case(call, &made(&scene), &named([0, at]));
-        let written = expected.outcome.expect("the original answers").written;
-        if written[0] == scene.store {
-            let others = written[1..].iter().map(|spare| Form::Store.shown(spare));
-            let left: Vec<String> = std::iter::once("=".into()).chain(others).collect();
+    let sets = 30;
+    record::sets(title, sets, |set| {
+        let mut pool = begin(random, set);
+        let store = Part::read("the store", Form::Store, &pool.scene.store);
+        let mut lines = registers(0, &[pool.scene.table_part(), store]);
+        let mut at = 1;
+        for _ in 0..cases.div_ceil(sets) {
+            let (case, expected) = case(call, &made(random, &pool), &named([0, at]));
+            let written = expected.outcome.expect("the original answers").written;
+            let mut left: Vec<String> = written.iter().map(|s| Form::Store.shown(s)).collect();
+            if written[0] == pool.scene.store {
+                left[0] = "=".into();
+            } else {
+                at = 3 - at;
+                lines.push(register(at, Form::Store, &written[0]));
+                left = named(vec![at; written.len()]);
+                pool.put(written[0].clone());
+            }
             lines.push(format!("{case} {}", left.join(" ")));
-            continue;
         }
-        at = 3 - at;
-        lines.push(register(at, Form::Store, &written[0]));
-        let left = vec![format!("${at}"); written.len()];
-        lines.push(format!("{case} {}", left.join(" ")));
-        scene = scene.with_store(written[0].clone());
-    }
-    lines
+        lines
+    })
 }

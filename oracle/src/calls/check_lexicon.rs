@@ -1,6 +1,7 @@
 //! check_lexicon: whether the entries of a lexicon are whole and their words do not fall. The original has
 //! no such call; the driver's own test, written from 01, says what is expected.
 
+use crate::lexicon_edges::{altered_bytes, large, limits, small};
 use crate::lexicons::{Compiled, DAMAGE};
 use crate::prelude::*;
 
@@ -19,9 +20,7 @@ impl Call for CheckLexicon {
     const LIBRARY: Function = ours::check_lexicon;
 
     fn short(&self) -> Vec<Rc<Lexicon>> {
-        let large = lexicon_edges::large().into();
-        let limits = [lexicon_edges::limits(), lexicon_edges::altered_bytes()];
-        [lexicon_edges::small(4), large, limits.concat()].concat()
+        [small(4), large().into(), limits(), altered_bytes()].concat()
     }
 
     fn random(&mut self, random: &mut Random) -> Rc<Lexicon> {
@@ -35,17 +34,11 @@ impl Call for CheckLexicon {
     fn rule(&self, lexicon: &Rc<Lexicon>, met: &mut Met) -> Ruling {
         met.refuse(1, !lexicon.has_form(), || None)?;
         met.all(entries(lexicon.count()));
-        let (kind, row) = match lexicon.check() {
-            Ok(()) => {
-                met.all(accepted(lexicon));
-                (1, "yes")
-            }
-            Err(why) => {
-                met.row(why);
-                met.all(amiss(lexicon));
-                (0, "no")
-            }
+        let (kind, row, rows) = match lexicon.check() {
+            Ok(()) => (1, "yes", accepted(lexicon)),
+            Err(why) => (0, "no", [vec![why], amiss(lexicon)].concat()),
         };
+        met.all(rows);
         Ok(Told::new(Answer::accepted(kind, 0), row, vec![]).by_01())
     }
 
@@ -64,8 +57,7 @@ rows! { ROWS:
 
     /// What a lexicon has that is accepted.
     accepted(lexicon: &Lexicon) {
-        let entries = (0..lexicon.count()).filter_map(|i| lexicon.entry(i).ok());
-        let entries: Vec<Compiled> = entries.collect();
+        let entries: Vec<Compiled> = (0..lexicon.count()).flat_map(|i| lexicon.entry(i)).collect();
         let any = |is_met: &dyn Fn(&Compiled) -> bool| entries.iter().any(is_met);
         let end = lexicon.sections.data.as_ptr_range().end;
     } [

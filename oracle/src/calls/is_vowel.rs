@@ -30,8 +30,7 @@ impl Call for IsVowel {
             (false, Some(_)) => "of the 50, no vowel",
             (false, None) => "in no table",
         };
-        let answer = Answer::accepted(u32::from(is_vowel), 0);
-        Ok(Told::new(answer, row, vec![]))
+        Ok(Told::new(Answer::accepted(u32::from(is_vowel), 0), row, vec![]))
     }
 
     fn lent<'a>(&self, phone: &'a Vec<u8>) -> Vec<Part<'a>> {

@@ -3,31 +3,38 @@
 //! list of entries: it is fed the calls and whether each was refused, and says the words of a sheet again.
 
 mod book;
-mod log;
 mod made;
 mod run;
 mod short;
-mod smaller;
+mod state;
 
-use crate::calls::{add_entries, add_entry, new_sheet, say_word};
 use crate::prelude::*;
 use crate::sheets::LARGEST;
 use book::Book;
-use made::Maker;
-use run::{Beside, Library};
+use made::Sources;
+use run::{run, Library};
 
-/// A call of a list.
+/// A call of a list. A text comes with the byte that fills the spare, and its length, if that is not the store's.
 #[derive(Clone)]
 pub enum Act {
     NewSheet,
     AddEntry(Add),
-    /// A text, and the byte that fills the spare; its length, if that is not the store's.
-    AddText {
-        text: Vec<u8>,
-        fill: u8,
-        spare: Option<usize>,
-    },
+    AddText { text: Vec<u8>, fill: u8, spare: Option<usize> },
     SayWord(Wanted),
+}
+
+impl Shrink for Act {
+    fn smaller(&self) -> Vec<Act> {
+        match self {
+            Act::NewSheet => vec![],
+            Act::AddEntry(given) => given.smaller().into_iter().map(Act::AddEntry).collect(),
+            Act::AddText { text, fill, spare } => {
+                let made = |text| Act::AddText { text, fill: *fill, spare: *spare };
+                lines::shorter(text).into_iter().map(made).collect()
+            }
+            Act::SayWord(wanted) => wanted.smaller().into_iter().map(Act::SayWord).collect(),
+        }
+    }
 }
 
 #[derive(Clone)]
@@ -37,7 +44,11 @@ pub struct Step {
     broken: bool,
 }
 
+// sections that are whole in the place of broken ones
+smaller!(Step: act, broken by |broken: &bool| Vec::from_iter(broken.then_some(false)));
+
 /// The sections of a list.
+#[derive(Clone)]
 pub struct Sections {
     lexicon: Rc<Lexicon>,
     /// lex.phones alone, which is all that adding takes.
@@ -46,39 +57,51 @@ pub struct Sections {
 }
 
 impl Sections {
-    fn new(lexicon: &Rc<Lexicon>, trees: &Rc<Trees>) -> Rc<Sections> {
-        Rc::new(Sections {
-            lexicon: lexicon.clone(),
-            table: Lexicon::of_table(lexicon.sections.phones.clone()),
-            trees: trees.clone(),
-        })
+    fn new(lexicon: Rc<Lexicon>, trees: Rc<Trees>) -> Sections {
+        let table = Lexicon::of_table(lexicon.sections.phones.clone());
+        Sections { lexicon, table, trees }
+    }
+
+    /// Whether a call refuses what it takes of them.
+    fn are_refused(&self, act: &Act) -> bool {
+        match act {
+            Act::SayWord(_) => !self.lexicon.has_form() || self.trees.names.is_none(),
+            _ => self.table.names.is_none(),
+        }
+    }
+}
+
+impl Shrink for Sections {
+    fn smaller(&self) -> Vec<Sections> {
+        let lexicons = self.lexicon.smaller().into_iter();
+        let lexicons = lexicons.map(|lexicon| Sections::new(lexicon, self.trees.clone()));
+        let trees = with(self, self.trees.smaller(), |sections, trees| sections.trees = trees);
+        lexicons.chain(trees).collect()
     }
 }
 
 #[derive(Clone)]
 pub struct Input {
-    sections: Rc<Sections>,
+    sections: Sections,
     /// Sections that break their form, one at least.
-    broken: Rc<Sections>,
+    broken: Sections,
     /// The bytes of store and sheet before they are made new.
     store: Vec<u8>,
     sheet: Vec<u8>,
     steps: Vec<Step>,
 }
 
-impl Input {
-    /// The sections that a call is lent; broken ones only where it takes what is broken.
-    fn lent(&self, step: &Step) -> &Sections {
-        let Sections { lexicon, table, trees } = &*self.broken;
-        let refused = match step.act {
-            Act::SayWord(_) => !lexicon.has_form() || trees.names.is_none(),
-            _ => table.names.is_none(),
-        };
-        match step.broken && refused {
-            true => &self.broken,
-            false => &self.sections,
-        }
-    }
+smaller!(Input: steps, sheet by shorter_sheet, store by shorter_store, sections);
+
+fn shorter_sheet(sheet: &[u8]) -> Vec<Vec<u8>> {
+    let len = sheet.len();
+    let lengths = [ITEM, len / 2, len - len % ITEM, len - 1];
+    records::less_behind(sheet, 0, &lengths.map(|len| len.max(ITEM)))
+}
+
+fn shorter_store(store: &[u8]) -> Vec<Vec<u8>> {
+    let one_less = (store.len() - SLOT).max(SLOT);
+    records::less_behind(store, 0, &[SLOT, one_less])
 }
 
 /// The rows of a call: its answers, then the refusals that lists meet.
@@ -100,11 +123,8 @@ const CALLS: &[Rows] = &[
 
 #[derive(Default)]
 pub struct Lists {
-    maker: Maker,
-    new_sheet: new_sheet::NewSheet,
-    add_entry: add_entry::AddEntry,
-    add_text: add_entries::AddEntries,
-    say_word: say_word::SayWord,
+    phones: Rc<Phones>,
+    sources: Served<Sources>,
 }
 
 impl Call for Lists {
@@ -125,16 +145,15 @@ impl Call for Lists {
     }
 
     fn random(&mut self, random: &mut Random) -> Input {
-        self.maker.list(random)
+        let sources = self.sources.next(|| made::begin(random, &self.phones));
+        made::list(random, sources, &self.phones)
     }
 
     fn rule(&self, input: &Input, met: &mut Met) -> Ruling {
-        let mut beside = Beside { book: Book::new(&input.sections), met, refused: false };
-        let log = self.run(input, &mut beside)?;
+        let log = run(input, &mut Book::new(&input.sections, met))?;
         met.all(lengths(input));
         let row = row_of(Self::ANSWERS, &[1, 6, 21], input.steps.len());
-        let answer = Answer::accepted(0, input.steps.len());
-        Ok(Told::new(answer, row, vec![log]))
+        Ok(Told::new(Answer::accepted(0, 0), row, vec![log]))
     }
 
     /// The log, which is all that is compared.
@@ -144,16 +163,12 @@ impl Call for Lists {
 
     fn ours(&self, input: &Input, _handed: &[Vec<u8>]) -> Outcome {
         let mut library = Library::default();
-        let log = self.run(input, &mut library);
-        Outcome {
-            answer: Answer::accepted(0, input.steps.len()),
-            written: vec![log.expect("the library is never at odds with itself")],
-            altered: library.altered,
-        }
+        let log = run(input, &mut library).expect("the library is never at odds with itself");
+        Outcome { answer: Answer::accepted(0, 0), written: vec![log], altered: library.altered }
     }
 
     fn show(&self, input: &Input, _handed: &[Vec<u8>]) -> String {
-        let Sections { lexicon, trees, .. } = &*input.sections;
+        let Sections { lexicon, trees, .. } = &input.sections;
         let mut lines = vec![
             "a list of calls".into(),
             notation::line("    lex", &lexicon.sections.parts(), &[], &[]),
@@ -162,17 +177,14 @@ impl Call for Lists {
             format!("  0 new_sheet {}", notation::bytes(&input.sheet)),
         ];
         for (i, step) in (1..).zip(&input.steps) {
-            let broken = match step.broken {
-                true => " (broken sections)",
-                false => "",
-            };
+            let broken = if step.broken { " (broken sections)" } else { "" };
             lines.push(format!("  {i} {}{broken}", shown(&step.act)));
         }
         lines.join("\n")
     }
 
     fn show_written(&self, _input: &Input, outcome: &Outcome) -> String {
-        log::shown(&outcome.written.concat())
+        state::shown(&outcome.written.concat())
     }
 }
 
@@ -183,8 +195,7 @@ fn shown(act: &Act) -> String {
         Act::AddEntry(given) => notation::line("add_entry", &given.parts(), &[], &[]),
         Act::AddText { text, fill, spare } => {
             let len = spare.map_or("as long as the store".into(), |len| format!("{len} bytes"));
-            let text = notation::bytes(text);
-            format!("add_entries (a spare of {fill:02x}, {len}) {text}")
+            format!("add_entries (a spare of {fill:02x}, {len}) {}", notation::bytes(text))
         }
         Act::SayWord(wanted) => notation::line("say_word", &wanted.parts(), &[], &[]),
     }

@@ -1,8 +1,6 @@
 //! new_sheet: the first item of a sheet, written whole. The original has no such call; 01 says what is expected.
 
 use crate::prelude::*;
-use crate::records::filled;
-use crate::sheets::LARGEST;
 
 input!(sheet: Vec<u8> => sheet_shapes::smaller);
 
@@ -19,12 +17,10 @@ impl Call for NewSheet {
     const LIBRARY: Function = ours::new_sheet;
 
     fn short(&self) -> Vec<Input> {
-        let mut sheets: Vec<Vec<u8>> = (0..6 * ITEM).map(filled).collect();
-        for items in (1..=LARGEST / ITEM).step_by(31).chain([1_023, 1_024]) {
-            sheets.extend([0, 1, ITEM - 1].map(|more| filled(ITEM * items + more)));
-        }
-        sheets.extend(sheet_edges::limits());
-        sheets.into_iter().map(Input::new).collect()
+        let items = (1..=sheets::LARGEST / ITEM).step_by(31).chain([1_023, 1_024]);
+        let lengths = items.flat_map(|items| [0, 1, ITEM - 1].map(|more| ITEM * items + more));
+        let sheets = (0..6 * ITEM).chain(lengths).map(records::filled);
+        sheets.chain(sheet_edges::limits()).map(Input::new).collect()
     }
 
     fn random(&mut self, random: &mut Random) -> Input {
@@ -34,11 +30,9 @@ impl Call for NewSheet {
     }
 
     fn rule(&self, Input { sheet }: &Input, met: &mut Met) -> Ruling {
-        let len = sheet.len();
-        met.refuse(2, !sheets::has_length(len), || length(len))?;
+        met.refuse(2, !sheets::has_length(sheet.len()), || length(sheet.len()))?;
         met.all(before(sheet));
-        let new = vec![vec![0; ITEM]];
-        Ok(Told::new(Answer::accepted(0, 0), "new", new).by_01())
+        Ok(Told::new(Answer::accepted(0, 0), "new", vec![vec![0; ITEM]]).by_01())
     }
 
     fn lent<'a>(&self, Input { sheet }: &'a Input) -> Vec<Part<'a>> {
@@ -52,7 +46,7 @@ rows! { ROWS:
         "sheet that is sound" => sheets::read(sheet).is_ok(),
         "sheet that is not" => sheets::read(sheet).is_err(),
         "sheet of one item" => sheet.len() < 2 * ITEM,
-        "sheet of 65,536 bytes" => sheet.len() == LARGEST,
+        "sheet of 65,536 bytes" => sheet.len() == sheets::LARGEST,
         "bytes behind the last whole item" => sheet.len() % ITEM != 0,
         "later items that stay as they are" => !zeros(&sheet[ITEM..]),
     ]
@@ -61,6 +55,6 @@ rows! { ROWS:
     length(len: usize) [
         "refusal 2: no bytes" => len == 0,
         "refusal 2: fewer than 64 bytes" => (1..ITEM).contains(&len),
-        "refusal 2: over 65,536 bytes" => len > LARGEST,
+        "refusal 2: over 65,536 bytes" => len > sheets::LARGEST,
     ]
 }

@@ -2,8 +2,6 @@
 //! expected.
 
 use crate::prelude::*;
-use crate::records::filled;
-use crate::stores::LARGEST;
 
 input!(store: Vec<u8> => store_shapes::smaller);
 
@@ -20,12 +18,10 @@ impl Call for NewStore {
     const LIBRARY: Function = ours::new_store;
 
     fn short(&self) -> Vec<Input> {
-        let mut stores: Vec<Vec<u8>> = (0..3 * SLOT).map(filled).collect();
-        for slots in 1..=LARGEST / SLOT + 2 {
-            stores.extend([0, 1, SLOT - 1].map(|more| filled(SLOT * slots + more)));
-        }
-        stores.extend(store_edges::limits());
-        stores.into_iter().map(Input::new).collect()
+        let slots = 1..=stores::LARGEST / SLOT + 2;
+        let lengths = slots.flat_map(|slots| [0, 1, SLOT - 1].map(|more| SLOT * slots + more));
+        let stores = (0..3 * SLOT).chain(lengths).map(records::filled);
+        stores.chain(store_edges::limits()).map(Input::new).collect()
     }
 
     fn random(&mut self, random: &mut Random) -> Input {
@@ -35,11 +31,9 @@ impl Call for NewStore {
     }
 
     fn rule(&self, Input { store }: &Input, met: &mut Met) -> Ruling {
-        let len = store.len();
-        met.refuse(2, !stores::has_length(len), || length(len))?;
+        met.refuse(2, !stores::has_length(store.len()), || length(store.len()))?;
         met.all(before(store));
-        let new = vec![vec![0; SLOT]];
-        Ok(Told::new(Answer::accepted(0, 0), "new", new).by_01())
+        Ok(Told::new(Answer::accepted(0, 0), "new", vec![vec![0; SLOT]]).by_01())
     }
 
     fn lent<'a>(&self, Input { store }: &'a Input) -> Vec<Part<'a>> {
@@ -53,13 +47,13 @@ rows! { ROWS:
         "store that is sound" => stores::read(store).is_ok(),
         "store that is not" => stores::read(store).is_err(),
         "store of one slot" => store.len() == SLOT,
-        "store of 65,536 bytes" => store.len() == LARGEST,
+        "store of 65,536 bytes" => store.len() == stores::LARGEST,
         "later slots that stay as they are" => !zeros(&store[SLOT..]),
     ]
 
     /// Why a length is refused.
     length(len: usize) [
-        "refusal 2: over 65,536 bytes" => len % SLOT == 0 && len > LARGEST,
+        "refusal 2: over 65,536 bytes" => len % SLOT == 0 && len > stores::LARGEST,
         "refusal 2: no multiple of 512" => len % SLOT != 0,
         "refusal 2: no bytes" => len == 0,
     ]

@@ -2,7 +2,7 @@
 //! utterance; it is given those that the driver's own reader finds in a sheet.
 
 use crate::prelude::*;
-use crate::sheets::{Placed, LARGEST, UNSOUND};
+use crate::sheet_edges::{altered_bytes, every_byte, flipped};
 
 input!(sheet: Vec<u8> => sheet_shapes::smaller, room: Room);
 
@@ -19,7 +19,7 @@ impl Call for PhoneString {
     const ANSWERS: Rows = &["no bytes", "bytes 1 to 20", "bytes 21 and more"];
     const REFUSALS: &'static [u32] = &[2, 9];
     const MET: Table =
-        &[cells::PHONES, ROWS, sheet_edges::SHEET, &[OUTPUT_OR_NONE, TOO_SHORT], UNSOUND];
+        &[cells::PHONES, ROWS, sheet_edges::SHEET, &[OUTPUT_OR_NONE, TOO_SHORT], sheets::UNSOUND];
     const LIBRARY: Function = ours::phone_string;
 
     fn short(&self) -> Vec<Input> {
@@ -29,19 +29,16 @@ impl Call for PhoneString {
             for size in [Size::Exact, Size::More(1), Size::More(100), Size::Short(1), Size::Short(usize::MAX)];
             [input(&sheet, size)]
         };
-        let altered = [sheet_edges::altered_bytes(), sheet_edges::every_byte()].into_iter();
-        let altered = each! {
-            for (i, sheet) in altered.chain([sheet_edges::flipped()]).flatten().enumerate();
-            [input(&sheet, Size::More(i % 2))]
-        };
+        let altered = [altered_bytes(), every_byte(), flipped()].concat();
+        let altered = altered.iter().enumerate().map(|(i, sheet)| input(sheet, Size::More(i % 2)));
         // a sheet of phones alone, as far as there is room
         let full = each! {
             for phone in ["", "x", "abcdefghijklmno"];
-            let syllable = format!("0{}", format!(" {phone}").repeat(LARGEST / ITEM - 3));
+            let syllable = format!("0{}", format!(" {phone}").repeat(sheets::LARGEST / ITEM - 3));
             let placed = sheet_edges::in_order(&[sheet_edges::word("w", &[&syllable])]);
             [Size::Exact, Size::Short(1)].map(|size| input(&sheet_edges::sheet(&placed, 0, 0), size))
         };
-        [limits, altered, full].concat()
+        altered.chain(limits).chain(full).collect()
     }
 
     fn random(&mut self, random: &mut Random) -> Input {
@@ -73,32 +70,24 @@ impl Call for PhoneString {
     }
 
     fn record(&self, random: &mut Random, cases: usize) -> Vec<String> {
-        let inputs: Vec<Input> = (0..cases).map(|_| self.to_record(random)).collect();
-        record::cases(self, "phone strings of sheets of any shape", &inputs)
-    }
-}
-
-impl PhoneString {
-    /// A small sheet.
-    fn to_record(&self, random: &mut Random) -> Input {
-        loop {
+        let mut inputs = vec![];
+        while inputs.len() < cases {
             let unused = random.below(2);
-            let sheet = sheet_shapes::random(random, &self.phones, unused);
-            if sheet.len() > 14 * ITEM {
-                continue;
+            let mut sheet = sheet_shapes::random(random, &self.phones, unused);
+            // small ones
+            if sheet.len() <= 14 * ITEM {
+                let from = sheets::unused(&sheet);
+                sheet[from..].fill(random.byte());
+                inputs.push(Input::new(sheet, Room::to_record(random, 20)));
             }
-            let from = sheets::unused(&sheet);
-            let fill = random.byte();
-            let behind = vec![fill; sheet.len() - from];
-            let sheet = [&sheet[..from], &behind].concat();
-            return Input::new(sheet, Room::to_record(random, 20));
         }
+        record::cases(self, "phone strings of sheets of any shape", &inputs)
     }
 }
 
 rows! { ROWS:
     /// What the words and the phones of a sheet have.
-    features(words: &[Placed], phones: &[&[u8]]) [
+    features(words: &[sheets::Placed], phones: &[&[u8]]) [
         "no phones" => phones.is_empty(),
         "one phone" => phones.len() == 1,
         "over 96 phones" => phones.len() > 96,

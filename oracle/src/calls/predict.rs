@@ -1,12 +1,8 @@
 //! predict: the phones of a word by the letter trees.
 
+use crate::calls::lookup::WORDS;
 use crate::prelude::*;
 use crate::trees::Walk;
-
-/// How many words a set of trees serves.
-const WORDS: usize = 40;
-/// The letters of the short words.
-const SHORT: &[u8] = b"abzA#'0-";
 
 input!(word: Vec<u8> => fewer_or_plainer, room: Room, trees: Rc<Trees>);
 
@@ -24,6 +20,7 @@ impl Call for Predict {
     const REFUSALS: &'static [u32] = &[1, 3, 6, 9];
     const MET: Table = &[
         words::WORD,
+        &[&["'#' that stops"]],
         ROWS,
         &[&["damage that is not walked", "phone with a stress"]],
         cells::PHONES,
@@ -33,14 +30,12 @@ impl Call for Predict {
 
     fn short(&self) -> Vec<Input> {
         let random = &mut Random::new(7, "short predict");
-        let mut sets: Vec<Rc<Trees>> =
-            (0..10).map(|shape| Rc::new(tree_shapes::to_record(random, shape))).collect();
-        sets.push(Rc::new(tree_edges::one_leaf(b"x-y-z")));
-        sets.push(Rc::new(tree_edges::one_leaf(b"-")));
+        let sets = (0..10).map(|shape| tree_shapes::to_record(random, shape));
+        let leaves = [&b"x-y-z"[..], b"-"].map(tree_edges::one_leaf);
         let short = each! {
-            for (i, trees) in sets.iter().enumerate();
-            for word in words::every(SHORT, 3).into_iter().chain(words::edges());
-            [input(trees, word, Size::More(i % 3))]
+            for (i, trees) in sets.chain(leaves).map(Rc::new).enumerate();
+            for word in words::every(b"abzA#'0-", 3).into_iter().chain(words::edges());
+            [input(&trees, word, Size::More(i % 3))]
         };
         [short, edges()].concat()
     }
@@ -67,19 +62,15 @@ impl Call for Predict {
         refusal(&input.trees, &input.word, &mut walks)?;
         let phones = ask(|| input.trees.original().predict(ascii(&input.word)))?;
         *met = walks;
-        let stressed = phones.iter().any(|p| p.ends_with(['0', '1']));
-        met.add("phone with a stress", stressed);
+        met.add("phone with a stress", phones.iter().any(|p| p.ends_with(['0', '1'])));
         met.all(cells::of_phones(&phones));
         let row = row_of(Self::ANSWERS, &[1, 6, 48], phones.len());
-        let answer = Answer::accepted(0, phones.len());
-        Ok(Told::new(answer, row, vec![cells(&phones)]))
+        Ok(Told::new(Answer::accepted(0, phones.len()), row, vec![cells(&phones)]))
     }
 
     fn lent<'a>(&self, input: &'a Input) -> Vec<Part<'a>> {
-        let mut parts = Vec::from(input.trees.sections.parts());
-        parts.push(words::word_part(&input.word));
-        parts.push(Part::output(Form::Cells, input.room));
-        parts
+        let own = [words::word_part(&input.word), Part::output(Form::Cells, input.room)];
+        input.trees.sections.parts().into_iter().chain(own).collect()
     }
 
     fn record(&self, random: &mut Random, cases: usize) -> Vec<String> {
@@ -89,8 +80,8 @@ impl Call for Predict {
             let mut lines = registers(0, &trees.sections.parts());
             for i in 0..cases.div_ceil(sets) {
                 // the edges on a few sets only
-                let edge = set % 5 == 4;
-                let word = words::to_record(random, &trees.alphabet, edge.then_some(i));
+                let edge = (set % 5 == 4).then_some(i);
+                let word = words::to_record(random, &trees.alphabet, edge);
                 let input = Input::new(word, Room::to_record(random, 40), trees.clone());
                 lines.push(whole_case(self, &input, &named(0..3)));
             }
@@ -112,17 +103,15 @@ pub fn refusal(trees: &Trees, given: &[u8], met: &mut Met) -> Result<(), u32> {
     let padded = [b"000#", &word[..], b"#000"].concat();
     let first = word.iter().rposition(|b| *b == b'#').map_or(0, |at| at + 1);
     met.all(words::of_word(given));
-    met.all(stops(first));
+    met.add("'#' that stops", first > 0);
     for at in (first..word.len()).rev() {
         met.once(of_byte(word[at], at, first));
-        if !word[at].is_ascii_lowercase() {
-            continue;
+        if word[at].is_ascii_lowercase() {
+            let features = [0, 1, 2, 3, 5, 6, 7, 8].map(|i| padded[at + i]);
+            let walk = trees.walk(&features, trees.start(word[at]));
+            let name = walk.leaf.and_then(|leaf| names.get(leaf)).ok_or(6_u32)?;
+            met.once(walked(&walk, trees.nodes(), name));
         }
-        let near = &padded[at..at + 9];
-        let features = [0, 1, 2, 3, 5, 6, 7, 8].map(|i| near[i]);
-        let walk = trees.walk(&features, trees.start(word[at]));
-        let name = walk.leaf.and_then(|leaf| names.get(leaf)).ok_or(6_u32)?;
-        met.once(walked(&walk, trees.nodes(), name));
     }
     met.add("damage that is not walked", trees.has_damage);
     Ok(())
@@ -153,16 +142,11 @@ fn edges() -> Vec<Input> {
 /// Words with letters left out, or one letter made an "a".
 fn fewer_or_plainer(word: &Vec<u8>) -> Vec<Vec<u8>> {
     let others = (0..word.len()).filter(|i| word[*i] != b'a');
-    let plain = |i: usize| [&word[..i], b"a", &word[i + 1..]].concat();
-    word.smaller().into_iter().chain(others.map(plain)).collect()
+    let plainer = others.map(|i| records::with_byte(word, i, b'a'));
+    word.smaller().into_iter().chain(plainer).collect()
 }
 
 rows! { ROWS:
-    /// Whether the reading stops before the word's front.
-    stops(first: usize) [
-        "'#' that stops" => first > 0,
-    ]
-
     /// What a byte of a word has, as it is read.
     of_byte(byte: u8, at: usize, first: usize) {
         let letter = byte.is_ascii_lowercase();

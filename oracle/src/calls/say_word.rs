@@ -7,20 +7,14 @@ mod short;
 use crate::calls::{lookup, phone_string};
 use crate::prelude::*;
 use crate::spoken::Word;
-use rule::{origin, Origin};
-
-/// How many words a lexicon, its store and its trees serve.
-const WORDS: usize = 40;
+use rule::{bare, origin};
 
 input!(sheet: Vec<u8> => sheet_shapes::smaller, scene: Rc<Scene>, trees: Rc<Trees>, wanted: Wanted);
 
-/// A lexicon with a store, letter trees, and words to try on them.
+/// Sections, with the sheet as the words before have left it, and words to try on them.
 struct Sources {
-    scene: Rc<Scene>,
-    trees: Rc<Trees>,
+    input: Input,
     words: Vec<Vec<u8>>,
-    /// The sheet as the words before have left it.
-    sheet: Vec<u8>,
 }
 
 #[derive(Default)]
@@ -40,18 +34,13 @@ impl Call for SayWord {
         rule::ROWS,
         cells::PHONES,
         words::WORD,
-        &[&[
-            "tag empty",
-            "tag 'nil'",
-            "tag of more bytes",
-            "sheet without words",
-            "sheet in another order than its items",
-            "sheet of 65,536 bytes",
-            "bytes behind the last whole item",
-            "anything in unused items",
-            "6: compiled entry",
-            "6: letter tree",
-        ]],
+        &[
+            &["tag empty", "tag 'nil'", "tag of more bytes"],
+            &["sheet without words", "sheet in another order than its items"],
+            &["sheet of 65,536 bytes", "bytes behind the last whole item"],
+            &["anything in unused items"],
+            &["6: compiled entry", "6: letter tree"],
+        ],
         sheets::UNSOUND,
         stores::UNSOUND,
     ];
@@ -62,14 +51,17 @@ impl Call for SayWord {
     }
 
     fn random(&mut self, random: &mut Random) -> Input {
-        let sources = self.sources.next(|| begin(random, &self.phones));
+        let Sources { input, words } = self.sources.next(|| {
+            let (scene, words) = lookup::scene(random, &self.phones);
+            let input = without_word(scene, tree_shapes::random(random));
+            (Sources { input, words }, lookup::WORDS)
+        });
         let word = match random.weighted(&[5, 3]) {
-            0 => words::near(random, &sources.words),
-            _ => words::random(random, &sources.trees.alphabet),
+            0 => words::near(random, words),
+            _ => words::random(random, &input.trees.alphabet),
         };
         let wanted = Wanted::new(word, words::tag(random));
-        let Sources { sheet, scene, trees, .. } = sources;
-        let mut input = Input::new(sheet.clone(), scene.clone(), trees.clone(), wanted);
+        let mut input = Input { wanted, ..input.clone() };
         if input.sheet.is_empty() || random.once_in(2) {
             let need = on_any_sheet(&input).map_or(5, |word| word.items());
             let unused = match random.weighted(&[6, 5, 4, 2, 1]) {
@@ -83,17 +75,15 @@ impl Call for SayWord {
         }
         if let Ok(mut outcome) = self.expected(&input).outcome {
             // a full sheet is left for another
-            self.sources.now().sheet = match outcome.answer.refusal {
+            self.sources.now().input.sheet = match outcome.answer.refusal {
                 9 => vec![],
                 _ => outcome.written.remove(0),
             };
         }
+        let Input { sheet, scene, .. } = &mut input;
         match random.below(24) {
-            0 | 1 => input.sheet = sheet_shapes::damaged(random, &input.sheet),
-            2 if input.scene.entries.is_ok() => {
-                let store = store_shapes::damaged(random, &input.scene.store);
-                input.scene = input.scene.with_store(store);
-            }
+            0 | 1 => *sheet = sheet_shapes::damaged(random, sheet),
+            2 => *scene = scene.with_store(store_shapes::damaged(random, &scene.store)),
             _ => {}
         }
         input
@@ -104,18 +94,13 @@ impl Call for SayWord {
         let word = said(input, &origin)?;
         let before = sheets::read(&input.sheet).expect("the sheet is sound");
         let unused = sheets::room(&input.sheet) - sheets::used(&before);
-        let refusal = match origin.phones.len() {
-            count if count > lookup::LONGEST => 7,
-            _ if word.items() > unused => 9,
-            _ => 0,
-        };
-        if refusal != 0 {
-            met.all(rule::by_7_or_9(input, &word, unused));
-            return Err(Stop::RefusedBeside(refusal, 0));
-        }
+        let why = || rule::by_7_or_9(input, &word, unused);
+        met.refuse(7, origin.phones.len() > lookup::LONGEST, why)
+            .and_then(|()| met.refuse(9, word.items() > unused, why))
+            .map_err(|refusal| Stop::RefusedBeside(refusal, 0))?;
         met.all(rule::spoken(&origin, &word));
         met.all(rule::digits(&origin, &word));
-        met.all(cells::of_phones(&origin.bare()));
+        met.all(cells::of_phones(&bare(&origin)));
         met.all(rule::added(input, &word, &before));
         met.shared(input.wanted.met());
         met.shared(sheet_edges::features(&input.sheet, &before));
@@ -124,29 +109,28 @@ impl Call for SayWord {
     }
 
     fn lent<'a>(&self, input: &'a Input) -> Vec<Part<'a>> {
-        let mut parts = Vec::from(input.scene.lexicon.sections.parts());
-        parts.extend(input.trees.sections.parts());
-        parts.push(Part::read("the store", Form::Store, &input.scene.store));
-        parts.push(Part::written("the sheet", Form::Sheet, &input.sheet));
-        parts.extend(input.wanted.parts());
-        parts
+        let Input { sheet, scene, trees, wanted } = input;
+        let sections = scene.lexicon.sections.parts().into_iter().chain(trees.sections.parts());
+        let store = Part::read("the store", Form::Store, &scene.store);
+        let sheet = Part::written("the sheet", Form::Sheet, sheet);
+        sections.chain([store, sheet]).chain(wanted.parts()).collect()
     }
 
     fn record(&self, random: &mut Random, cases: usize) -> Vec<String> {
         let sets = 20;
         record::sets("sections", sets, |set| {
             let shape = lexicon_shapes::few_to_record(random, &self.phones);
-            let lexicon = Rc::new(shape.lexicon);
-            let trees = Rc::new(tree_shapes::few_to_record(random, set));
-            let mut lines = registers(0, &lexicon.sections.parts());
-            lines.extend(registers(3, &trees.sections.parts()));
+            let scene = Scene::of(shape.lexicon, stores::new(1, 0));
+            let input = without_word(scene, tree_shapes::few_to_record(random, set));
+            let mut lines = registers(0, &self.lent(&input)[..6]);
+            let mut sources = Sources { input, words: shape.words };
             let mut left = cases.div_ceil(sets);
             while left > 0 {
                 // a store that holds nothing, or a few entries
                 let slots = [1, 1, 2, 3, 4][random.below(5)];
                 let store = stores::new(slots, random.byte() * (slots > 2) as u8);
-                let scene = Rc::new(Scene::new(&lexicon, store));
-                let utterance = self.utterance(random, &scene, &trees, &shape.words, left.min(5));
+                sources.input.scene = sources.input.scene.with_store(store);
+                let utterance = self.utterance(random, &sources, left.min(5));
                 left -= utterance.len();
                 lines.extend(self.recorded(random, &utterance));
             }
@@ -156,16 +140,15 @@ impl Call for SayWord {
 }
 
 /// The word by the original, with the phones that the driver finds by 01's rule.
-fn said(input: &Input, origin: &Origin) -> Result<Word, String> {
-    let original = input.scene.original();
-    let wanted = std::slice::from_ref(&input.wanted);
-    let mut said = spoken::say(original, input.trees.original(), wanted)?;
+fn said(input: &Input, origin: &lookup::Origin) -> Result<Word, String> {
+    let Input { scene, trees, wanted, .. } = input;
+    let mut said = spoken::say(scene.original(), trees.original(), &[wanted.clone()])?;
     let word = said.words.pop().ok_or("the original says no word")?;
     let phones: Vec<&[u8]> = word.phones().map(|phone| &phone[..]).collect();
     if phones.join(&b" "[..]) != said.phone_string.as_bytes() {
         return Err("the original's phone string has other phones than its word".into());
     }
-    if phones != origin.bare() || word.text != input.wanted.word || !said.words.is_empty() {
+    if phones != bare(origin) || word.text != wanted.word || !said.words.is_empty() {
         return Err("the original says another word than 01's rule does".into());
     }
     Ok(word)
@@ -178,49 +161,36 @@ fn on_any_sheet(input: &Input) -> Option<Word> {
     said(&input, &origin).ok()
 }
 
-/// A lexicon with a store, letter trees, and words around them; and how many words they serve.
-fn begin(random: &mut Random, phones: &Phones) -> (Sources, usize) {
-    let (scene, words) = lookup::scene(random, phones);
-    let sources =
-        Sources { scene, words, trees: Rc::new(tree_shapes::random(random)), sheet: vec![] };
-    (sources, WORDS)
+/// Sections to say words with, before there is a sheet or a word.
+fn without_word(scene: Rc<Scene>, trees: Trees) -> Input {
+    Input::new(vec![], scene, Rc::new(trees), Wanted::new("", ""))
 }
 
 impl SayWord {
     /// Words to say on one sheet, at most so many, with entries that may change between them. The last has a
     /// sheet that is large enough for all of them; the first finds it new.
-    fn utterance(
-        &self,
-        random: &mut Random,
-        scene: &Rc<Scene>,
-        trees: &Rc<Trees>,
-        words: &[Vec<u8>],
-        most: usize,
-    ) -> Vec<Input> {
-        let mut scene = scene.clone();
-        let mut inputs = vec![];
-        let mut need = 0;
+    fn utterance(&self, random: &mut Random, sources: &Sources, most: usize) -> Vec<Input> {
+        let (mut input, words) = (sources.input.clone(), &sources.words);
+        let (mut inputs, mut need) = (vec![], 0);
         let count = random.between(1, most);
         while inputs.len() < count {
-            if random.once_in(2) && stores::room(&scene.store) > 0 {
-                let add = store_shapes::few_phones(random, &scene, words, &self.phones);
-                scene = scene.with_store(scene.grown(&[add]));
+            if random.once_in(2) && stores::room(&input.scene.store) > 0 {
+                let add = store_shapes::few_phones(random, &input.scene, words, &self.phones);
+                input.scene = input.scene.with_store(input.scene.grown(&[add]));
             }
-            let entries = scene.entries();
+            let entries = input.scene.entries();
             let word = match random.weighted(&[4, 3, 2 * entries.len().min(1)]) {
                 0 => words::near(random, words),
-                1 => words::accepted(random, &trees.alphabet),
+                1 => words::accepted(random, &input.trees.alphabet),
                 _ => entries[random.below(entries.len())].entry.word.clone(),
             };
-            let wanted = Wanted::new(word, words::tag(random));
-            let input = Input::new(vec![], scene.clone(), trees.clone(), wanted);
+            input.wanted = Wanted::new(word, words::tag(random));
             // few long ones
             let longest = if random.once_in(30) { 40 } else { 12 };
-            match on_any_sheet(&input) {
-                Some(word) if word.items() <= longest => need += word.items(),
-                _ => continue,
+            if let Some(word) = on_any_sheet(&input).filter(|word| word.items() <= longest) {
+                need += word.items();
+                inputs.push(input.clone());
             }
-            inputs.push(input);
         }
         let items = 1 + need + random.below(3);
         let more = random.below(ITEM) * random.below(2);
@@ -237,9 +207,8 @@ impl SayWord {
         let mut lines = vec![register(at, Form::Sheet, &sheet)];
         for input in utterance {
             let input = Input { sheet, ..input.clone() };
-            let mut front = named(0..6);
-            front.push(Form::Store.shown(&input.scene.store));
-            front.extend(named([at]));
+            let store = Form::Store.shown(&input.scene.store);
+            let front = [named(0..6), vec![store], named([at])].concat();
             let (case, expected) = case(self, &input, &front);
             at = 13 - at;
             sheet = expected.outcome.expect("the original answers").written.concat();
@@ -247,8 +216,7 @@ impl SayWord {
             lines.push(format!("{case} ${at}"));
         }
         let input = phone_string::Input::new(sheet, Room::to_record(random, 20));
-        let call = phone_string::PhoneString::default();
-        lines.push(whole_case(&call, &input, &named([at])));
+        lines.push(whole_case(&phone_string::PhoneString::default(), &input, &named([at])));
         lines
     }
 }

@@ -35,11 +35,8 @@ impl Call for SplitStress {
             None => (0, "no stress"),
             Some(other) => panic!("the original tells stress {other}"),
         };
-        if stress.is_some() {
-            met.all(of_bare(bare));
-        }
-        let answer = Answer::accepted(kind, bare.len());
-        Ok(Told::new(answer, row, vec![]))
+        met.all(of_bare(bare, stress.is_some()));
+        Ok(Told::new(Answer::accepted(kind, bare.len()), row, vec![]))
     }
 
     fn lent<'a>(&self, phone: &'a Vec<u8>) -> Vec<Part<'a>> {
@@ -52,9 +49,9 @@ impl Call for SplitStress {
 }
 
 rows! { ROWS:
-    /// What a phone has behind whose stress was taken off.
-    of_bare(bare: &str) [
-        "bare phone of 0 bytes" => bare.is_empty(),
-        "bare phone that ends in a stress" => bare.ends_with(['0', '1']),
+    /// What a phone has whose stress was taken off.
+    of_bare(bare: &str, taken_off: bool) [
+        "bare phone of 0 bytes" => taken_off && bare.is_empty(),
+        "bare phone that ends in a stress" => taken_off && bare.ends_with(['0', '1']),
     ]
 }

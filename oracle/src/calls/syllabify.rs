@@ -1,10 +1,8 @@
 //! syllabify: the marks after the phones of a list.
 
+use crate::calls::lookup::LONGEST;
 use crate::phones::REHEARSED;
 use crate::prelude::*;
-
-/// The longest list that 01 accepts.
-const LONGEST: usize = 96;
 
 input!(list: List, room: Room);
 
@@ -25,11 +23,9 @@ impl Call for Syllabify {
     const LIBRARY: Function = ours::syllabify;
 
     fn short(&self) -> Vec<Input> {
-        let mut inputs = edges();
-        for list in self.short_lists() {
-            inputs.push(input(&list, Size::More(list.len() % 2)));
-        }
-        inputs
+        let lists = short_lists(&self.phones.names).into_iter();
+        let short = lists.map(|list| input(List::of(&list), Size::More(list.len() % 2)));
+        edges().into_iter().chain(short).collect()
     }
 
     fn random(&mut self, random: &mut Random) -> Input {
@@ -47,11 +43,10 @@ impl Call for Syllabify {
             let at = random.between(1, CELL - 1);
             list.cells[random.below(len)][at] = 128 + random.below(128) as u8;
         }
-        let rest = match random.once_in(5) {
-            true => random.between(0, CELL - 1),
-            false => 0,
-        };
-        list.rest = random.bytes(rest);
+        if random.once_in(5) {
+            let rest = random.between(0, CELL - 1);
+            list.rest = random.bytes(rest);
+        }
         Input::new(list, Room::random(random, 20))
     }
 
@@ -75,74 +70,54 @@ impl Call for Syllabify {
     }
 
     fn lent<'a>(&self, input: &'a Input) -> Vec<Part<'a>> {
-        let marks = Part::output(Form::Bytes, input.room);
-        vec![input.list.part(), marks]
+        vec![input.list.part(), Part::output(Form::Bytes, input.room)]
     }
 
     fn record(&self, random: &mut Random, cases: usize) -> Vec<String> {
         let mut inputs = edges();
-        inputs.retain(|input| self.accepts(input));
+        let accepted = |outcome: Outcome| outcome.answer.refusal == 0;
+        inputs.retain(|input| self.expected(input).outcome.is_ok_and(accepted));
         // a part of the short lists, taken at even steps
-        let short = self.short_lists();
+        let short = short_lists(&self.phones.names);
         let step = short.len() / (cases / 4).max(1);
         let some = short.iter().step_by(step.max(1));
-        inputs.extend(some.map(|list| input(list, Size::Exact)));
+        inputs.extend(some.map(|list| input(List::of(list), Size::Exact)));
         while inputs.len() < cases {
-            let len = match random.once_in(12) {
-                true => random.between(13, LONGEST),
-                false => random.between(0, 12),
-            };
-            let list = self.phones.list(random, len);
-            let mut made = input(&list, Size::Exact);
+            let len = random.ranged(&[(1, 13, LONGEST), (11, 0, 12)]);
+            let mut list = List::of(&self.phones.list(random, len));
             if random.once_in(16) {
-                made.list.spoil_padding(random);
+                list.spoil_padding(random);
             }
             if random.once_in(8) {
                 let rest = random.between(1, CELL - 1);
-                made.list.rest = vec![random.byte(); rest];
+                list.rest = vec![random.byte(); rest];
             }
-            made.room = Room::to_record(random, 20);
-            inputs.push(made);
+            inputs.push(Input::new(list, Room::to_record(random, 20)));
         }
         record::cases(self, "phone lists", &inputs)
     }
 }
 
-impl Syllabify {
-    fn accepts(&self, input: &Input) -> bool {
-        let outcome = self.expected(input).outcome;
-        outcome.is_ok_and(|outcome| outcome.answer.refusal == 0)
-    }
-
-    /// Every short list over phones that the rules tell apart, and every cluster between two vowels.
-    fn short_lists(&self) -> Vec<Vec<&'static str>> {
-        let mixed = [
-            "ae", "er", "axr", "t", "s", "r", "st", "h", "ng", "pau", "h#", "", "zz", "ae1",
-            "pau0", "AE",
-        ];
-        let few = ["ae", "s", "t", "r", "ng", "pau"];
-        let clustered =
-            ["s", "p", "t", "k", "r", "l", "w", "y", "th", "sh", "h", "hh", "st", "ng", "pau", ""];
-        let between = |middle: Vec<&'static str>| [&["ae"], &middle[..], &["ae"]].concat();
-        let of_length = |alphabet: &[&'static str], least: usize, most: usize| {
-            let lists = words::every(alphabet, most).into_iter();
-            lists.filter(move |list| list.len() >= least)
-        };
-        let mut lists = words::every(&mixed, 3);
-        lists.extend(of_length(&few, 4, 5));
-        lists.extend(of_length(&self.phones.names, 2, 2).map(between));
-        lists.extend(of_length(&clustered, 3, 3).map(between));
-        lists
-    }
+/// Every short list over phones that the rules tell apart, and every cluster, also of these names, between two vowels.
+fn short_lists(names: &[&'static str]) -> Vec<Vec<&'static str>> {
+    let phones = |phones: &'static str| phones.split(',').collect::<Vec<_>>();
+    let mixed = phones("ae,er,axr,t,s,r,st,h,ng,pau,h#,,zz,ae1,pau0,AE");
+    let few = phones("ae,s,t,r,ng,pau");
+    let clustered = phones("s,p,t,k,r,l,w,y,th,sh,h,hh,st,ng,pau,");
+    let between = |middle: Vec<&'static str>| [&["ae"], &middle[..], &["ae"]].concat();
+    let of_length = |alphabet: &[&'static str], least: usize, most: usize| {
+        let lists = words::every(alphabet, most).into_iter();
+        lists.filter(move |list| list.len() >= least)
+    };
+    let mut lists = words::every(&mixed, 3);
+    lists.extend(of_length(&few, 4, 5));
+    lists.extend(of_length(names, 2, 2).map(between));
+    lists.extend(of_length(&clustered, 3, 3).map(between));
+    lists
 }
 
-fn room(size: Size) -> Room {
-    let (fill, step) = (0x39, 0);
-    Room { size, fill, step }
-}
-
-fn input<T: AsRef<[u8]>>(list: &[T], size: Size) -> Input {
-    Input::new(List::of(list), room(size))
+fn input(list: List, size: Size) -> Input {
+    Input::new(list, Room { size, fill: 0x39, step: 0 })
 }
 
 /// A cell of a length byte, letters, and a last byte.
@@ -159,42 +134,40 @@ const OTHERS: &str = "ae1 t ae1,ae st r ae,pau,pau pau,ng,ae ng,ae ng ae,ae s t 
 fn edges() -> Vec<Input> {
     let rehearsed = each! {
         for list in REHEARSED.split(',').chain(OTHERS.split(','));
-        let list = list.split_whitespace().collect::<Vec<_>>();
-        [Size::Exact, Size::More(1), Size::More(200), Size::Short(1)].map(|size| input(&list, size))
+        let list = List::of(&list.split_whitespace().collect::<Vec<_>>());
+        [Size::Exact, Size::More(1), Size::More(200), Size::Short(1)]
+            .map(|size| input(list.clone(), size))
     };
     let lengths = each! {
         for len in [95, 96, 97, 98, 200];
         for phone in ["ae", "t", "pau", "", "abcdefghijklmno"];
-        [Size::Exact, Size::Short(1)].map(|size| input(&vec![phone; len], size))
+        [Size::Exact, Size::Short(1)].map(|size| input(List::of(&vec![phone; len]), size))
     };
     let long = [(15, b'a'), (16, b'a'), (255, b'a'), (15, 127), (15, 128)];
     let longer = [(14, 128), (16, 128), (255, 255), (2, 255), (0, 255)];
     let cells = each! {
         for (len, last) in [long, longer].concat();
-        let odd = odd(len, last);
         // 3 and 7 look at every cell, also past the 96th
         for before in [0, 96, 95];
-        let cells = [vec![cell(b"ae"); before], vec![odd]].concat();
-        [Input::new(List { cells, rest: vec![] }, room(Size::Exact))]
+        let list = List::of(&vec!["ae"; before + 1]);
+        [input(list.with(before, odd(len, last)), Size::Exact)]
     };
     let rests = each! {
         for rest in [1, 15];
         for len in [0, 1, 96, 97];
-        let (cells, rest) = (vec![cell(b"ae"); len], vec![255; rest]);
-        [Input::new(List { cells, rest }, room(Size::Exact))]
+        [input(List { rest: vec![255; rest], ..List::of(&vec!["ae"; len]) }, Size::Exact)]
     };
     [rehearsed, lengths, cells, rests].concat()
 }
 
 /// The rule of 01 that decides each place, by the original's own marks.
 fn places(phones: &[&str], marks: &[bool]) -> Vec<&'static str> {
-    let vowel: Vec<bool> = phones.iter().map(|p| phoneset::is_vowel(p)).collect();
     let mut rows = vec![];
     let mut seen = false;
     for (i, cut) in marks.iter().enumerate() {
-        seen |= vowel[i];
+        seen |= phoneset::is_vowel(phones[i]);
         let rest = &phones[i + 1..];
-        let next_vowel = vowel[i + 1..].iter().position(|v| *v);
+        let next_vowel = rest.iter().position(|phone| phoneset::is_vowel(phone));
         // the first that is so decides
         rows.push(place(rest, next_vowel, seen, *cut)[0]);
         rows.extend(onset(rest, next_vowel.filter(|_| seen && *cut)));
@@ -233,12 +206,10 @@ rows! { ROWS:
 
     /// What the phones of an accepted list have.
     features(phones: &[&str]) {
-        let stressed = |phone: &&str| {
-            let (bare, stress) = lexicon::split_stress(phone);
-            stress.is_some() && phoneset::is_vowel(bare)
-        };
+        let mut split = phones.iter().map(|phone| lexicon::split_stress(phone));
+        let stressed = split.any(|(bare, stress)| stress.is_some() && phoneset::is_vowel(bare));
     } [
-        "vowel with a stress, so a consonant" => phones.iter().any(stressed),
+        "vowel with a stress, so a consonant" => stressed,
         "list of 96 phones" => phones.len() == LONGEST,
     ]
 }

@@ -19,19 +19,18 @@ fn is_malformed(line: &[u8]) -> bool {
     matches!(lines::read(line), Line::NoColon | Line::NoWord)
 }
 
+/// The rows that tell why a line is refused.
+type Why = Vec<&'static str>;
+
 /// What 01 takes of a text.
 #[derive(Default)]
 pub struct Taken {
     /// The keys of the lines taken.
     pub keys: Vec<Key>,
-    pub fault: Option<Fault>,
-}
-
-/// The first faulty line: its refusal, its number, and where it starts.
-pub struct Fault {
-    pub refusal: u32,
-    pub line: usize,
-    at: usize,
+    /// Where these lines end.
+    end: usize,
+    /// The refusal of the first faulty line, and its number.
+    pub fault: Option<(u32, usize)>,
 }
 
 /// Goes through the lines by 01's rule, up to the first faulty one. Tells what they met.
@@ -40,61 +39,51 @@ pub fn taken(input: &Input, met: &mut Met) -> Taken {
     let before = input.scene.keys();
     let mut known = before.clone();
     let mut taken = Taken::default();
-    let mut at = 0;
-    for (number, line) in (1..).zip(input.text.split(|b| *b == b'\n')) {
+    for (number, whole) in (1..).zip(input.text.split_inclusive(|b| *b == b'\n')) {
+        let line = whole.strip_suffix(b"\n").unwrap_or(whole);
         let fault = match lines::read(line) {
-            Line::Nothing => None,
+            Line::Nothing => {
+                met.once(of_line(line, false));
+                None
+            }
             Line::Entry(fields) => {
                 let key = key(fields.word, fields.tag);
                 let is_new = !known.contains(&key);
-                let is_full = known.len() == room && is_new;
-                let fault = faulty(&input.scene.lexicon, &fields, is_full, met);
-                if fault == Some(8) {
-                    met.all(of_full(before.len() == room));
-                }
+                let full = (is_new && known.len() == room).then(|| of_full(before.len() == room));
+                let fault = faulty(&input.scene.lexicon, &fields, full);
                 if fault.is_none() {
                     let takes_last = is_new && known.len() + 1 == room;
+                    met.once(of_line(line, true));
+                    met.once(of_fields(line, &fields));
                     met.once(of_key(&key, &taken.keys, &before, takes_last));
                     known.extend(is_new.then(|| key.clone()));
                     taken.keys.push(key);
                 }
                 fault
             }
-            malformed => {
-                met.all(by_4(line, matches!(malformed, Line::NoColon)));
-                Some(4)
-            }
+            malformed => Some((4, by_4(line, matches!(malformed, Line::NoColon)))),
         };
-        if let Some(refusal) = fault {
-            let line = number;
-            taken.fault = Some(Fault { refusal, line, at });
-            return taken;
+        if let Some((refusal, why)) = fault {
+            met.all(why);
+            taken.fault = Some((refusal, number));
+            break;
         }
-        at += line.len() + 1;
+        taken.end += whole.len();
     }
     taken
 }
 
-fn is_long(text: &[u8]) -> bool {
-    text.len() > words::LONGEST
-}
-
-/// The refusal that 01 gives for a line's entry, if it gives one.
-fn faulty(lexicon: &Lexicon, fields: &Fields, is_full: bool, met: &mut Met) -> Option<u32> {
-    let unknown = |phone: &&&[u8]| phone.len() > 15 || !lexicon.knows(phone);
-    if is_long(fields.word) || is_long(fields.tag) {
-        met.all(by_3(fields));
-        return Some(3);
+/// The refusal that 01 gives for a line's entry, if it gives one, and what made it; a full store does in the end.
+fn faulty(lexicon: &Lexicon, fields: &Fields, full: Option<Why>) -> Option<(u32, Why)> {
+    let Fields { word, tag, phones, .. } = fields;
+    let unknown = phones.iter().find(|phone| phone.len() > 15 || !lexicon.knows(phone));
+    match unknown {
+        _ if words::is_refused(word) || words::is_refused(tag) => Some((3, by_3(fields))),
+        Some(phone) => Some((5, by_5(phone))),
+        None if phones.len() == MOST_PHONES + 1 => Some((7, vec!["7: 25 phones"])),
+        None if phones.len() > MOST_PHONES => Some((7, vec![])),
+        None => full.map(|why| (8, why)),
     }
-    if let Some(phone) = fields.phones.iter().find(unknown) {
-        met.all(by_5(phone));
-        return Some(5);
-    }
-    if fields.phones.len() > MOST_PHONES {
-        met.add("7: 25 phones", fields.phones.len() == MOST_PHONES + 1);
-        return Some(7);
-    }
-    is_full.then_some(8)
 }
 
 /// The store after the lines that 01 takes, by the original's list. It must count as many lines, or stop at
@@ -102,15 +91,11 @@ fn faulty(lexicon: &Lexicon, fields: &Fields, is_full: bool, met: &mut Met) -> O
 pub fn beside_the_original(input: &Input, taken: &Taken) -> Result<Vec<u8>, String> {
     let scene = &input.scene;
     let asked = |text: &[u8]| ask(|| scene.changed(|lexicon| lexicon.add_entries(ascii(text))));
-    let front = match &taken.fault {
-        Some(fault) => &input.text[..fault.at],
-        None => &input.text[..],
-    };
-    let (told, list) = asked(front)?;
+    let (told, list) = asked(&input.text[..taken.end])?;
     if told != Ok(taken.keys.len()) {
         return Err(format!("of the lines before a faulty one the original says {told:?}"));
     }
-    if let Some(Fault { refusal: refusal @ (4 | 5), line, .. }) = taken.fault {
+    if let Some((4 | 5, _)) = taken.fault {
         let (told, kept) = asked(&input.text)?;
         let stop = match told {
             Err(LexiconError::Malformed { line }) => Some((4, line)),
@@ -118,29 +103,11 @@ pub fn beside_the_original(input: &Input, taken: &Taken) -> Result<Vec<u8>, Stri
             Ok(_) => None,
         };
         let before = scene.entries().iter().map(|placed| &placed.entry);
-        if stop != Some((refusal, line)) || !kept.iter().eq(before) {
+        if stop != taken.fault || !kept.iter().eq(before) {
             return Err(format!("the original stops at {stop:?}, or alters its list"));
         }
     }
     scene.store_of(&taken.keys, &list)
-}
-
-/// What a text has beside its faults.
-pub fn features(input: &Input, taken: &Taken, met: &mut Met) {
-    let fault = taken.fault.as_ref();
-    let text = &input.text[..fault.map_or(input.text.len(), |fault| fault.at)];
-    if let Some(fault) = fault {
-        met.all(of_stop(input, taken, fault));
-    }
-    met.all(of_text(input, fault.is_none() && !text.ends_with(b"\n") && !text.is_empty()));
-    for line in text.split_inclusive(|b| *b == b'\n') {
-        let line = line.strip_suffix(b"\n").unwrap_or(line);
-        let read = lines::read(line);
-        met.once(of_line(line, matches!(read, Line::Entry(_))));
-        if let Line::Entry(fields) = read {
-            met.once(of_fields(line, &fields));
-        }
-    }
 }
 
 rows! { pub ROWS:
@@ -175,8 +142,8 @@ rows! { pub ROWS:
 
     /// What a line has that is refused by 3.
     by_3(fields: &Fields) [
-        "3: long word" => is_long(fields.word),
-        "3: long tag" => is_long(fields.tag),
+        "3: long word" => words::is_refused(fields.word),
+        "3: long tag" => words::is_refused(fields.tag),
     ]
 
     /// What an unknown phone has.
@@ -187,19 +154,16 @@ rows! { pub ROWS:
         "5: byte 28 in a phone" => phone.contains(&28),
     ]
 
-    /// What a text has that stops.
-    of_stop(input: &Input, taken: &Taken, fault: &Fault) {
-        let mut later = input.text[fault.at..].split(|b| *b == b'\n').skip(1);
+    /// What a text has as a whole, and where it stops.
+    of_text(text: &[u8], taken: &Taken) {
+        let stop = taken.fault.map(|(_, line)| line);
+        let mut later = text[taken.end..].split(|b| *b == b'\n').skip(1);
     } [
-        "stop: at line 1" => fault.line == 1,
-        "stop: earlier lines in the spare" => !taken.keys.is_empty(),
+        "stop: at line 1" => stop == Some(1),
+        "stop: earlier lines in the spare" => stop.is_some() && !taken.keys.is_empty(),
         "stop: a later line is faulty too" => later.any(is_malformed),
-    ]
-
-    /// What a text has as a whole.
-    of_text(input: &Input, lacks_end: bool) [
-        "empty text" => input.text.is_empty(),
-        "last line without its end" => lacks_end,
+        "empty text" => text.is_empty(),
+        "last line without its end" => stop.is_none() && !text.is_empty() && !text.ends_with(b"\n"),
     ]
 
     /// What a line has that is not faulty.

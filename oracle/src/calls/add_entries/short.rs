@@ -1,6 +1,7 @@
 //! The short inputs of add_entries.
 
 use super::Input;
+use crate::calls::adding::table;
 use crate::prelude::*;
 
 pub fn inputs() -> Vec<Input> {
@@ -35,87 +36,45 @@ fn altered_bytes() -> Vec<Input> {
     }
 }
 
+/// Texts at 01's limits, and just past them, parted by bars: faults and their ranks, long fields, odd bytes, quote
+/// marks, comments and colons, phones, known keys, ends of lines.
+fn limits() -> String {
+    let [w47, w48, w300] = [47, 48, 300].map(|n| "w".repeat(n));
+    let [k24, k25] = [24, 25].map(|n| " k".repeat(n));
+    format!(
+        "|b:zzz\nnocolon|{w48} : k\n# \u{80}|nocolon\n\u{e9}|# \u{e9}|{w48}\
+         |\"{w47}\" : k|\"{w48}\" : k|\"\"{w47}\"\"\" n : k|a {w47} : k|a {w48} : k|a n {w48} : k\
+         |{w48} : zz|: {w48}|a:\nA:k|a:k\nb:k\nc:k\nd:k\
+         |a\rb:k|a b:k\r\nB:k\r\n|a\x0bn\x0c: k\x0bt|a\x1cn: k|a: k\x1ct\
+         |\"a b\" n : k|\":\" : k|\":k|\"\"\"\" \"nil\" : k|a\"b : k|a nil : k\na NIL: k\na nill:k\
+         |a # : k|a#n : k|\"a#b\" : k|\x1c|a:b:c|a::k|::k|a: : k|a: h#|a: \"k\"\
+         |a:\tk\tt\n\tb\tn\t:|a: k # t|\n\n \t\n#x\na:zz\
+         |a:{k24}|a:{k25}|a:{k25} zz|lead v:{k24}|a: abcdefghijklmno|a: abcdefghijklmnop|a: {w300}\
+         |lead v: k\nlead v: t\nlead n: s\nLEAD v:|a:k\n:k| \n : k|\n|a:k\n\n"
+    )
+}
+
 /// Tables, stores, spares and texts at 01's limits, and just past them.
 fn edges() -> Vec<Input> {
-    let w = |n: usize| "w".repeat(n);
-    let k = |n: usize| " k".repeat(n);
-    let texts: Vec<String> = vec![
-        "".into(),
-        "b:zzz\nnocolon".into(),
-        format!("{} : k\n# \u{80}", w(48)),
-        "nocolon\n\u{e9}".into(),
-        "# \u{e9}".into(),
-        w(48),
-        format!("\"{}\" : k", w(47)),
-        format!("\"{}\" : k", w(48)),
-        format!("\"\"{}\"\"\" n : k", w(47)),
-        format!("a {} : k", w(47)),
-        format!("a {} : k", w(48)),
-        format!("a n {} : k", w(48)),
-        format!("{} : zz", w(48)),
-        format!(": {}", w(48)),
-        "a:\nA:k".into(),
-        "a:k\nb:k\nc:k\nd:k".into(),
-        "a\rb:k".into(),
-        "a b:k\r\nB:k\r\n".into(),
-        "a\x0bn\x0c: k\x0bt".into(),
-        "a\x1cn: k".into(),
-        "a: k\x1ct".into(),
-        "\"a b\" n : k".into(),
-        "\":\" : k".into(),
-        "\":k".into(),
-        "\"\"\"\" \"nil\" : k".into(),
-        "a\"b : k".into(),
-        "a nil : k\na NIL: k\na nill:k".into(),
-        "a # : k".into(),
-        "a#n : k".into(),
-        "\"a#b\" : k".into(),
-        "\x1c".into(),
-        "a:b:c".into(),
-        "a::k".into(),
-        "::k".into(),
-        "a: : k".into(),
-        "a: h#".into(),
-        "a: \"k\"".into(),
-        "a:\tk\tt\n\tb\tn\t:".into(),
-        "a: k # t".into(),
-        "\n\n \t\n#x\na:zz".into(),
-        format!("a:{}", k(24)),
-        format!("a:{}", k(25)),
-        format!("a:{} zz", k(25)),
-        format!("lead v:{}", k(24)),
-        "a: abcdefghijklmno".into(),
-        "a: abcdefghijklmnop".into(),
-        format!("a: {}", w(300)),
-        "lead v: k\nlead v: t\nlead n: s\nLEAD v:".into(),
-        "a:k\n:k".into(),
-        " \n : k".into(),
-        "\n".into(),
-        "a:k\n\n".into(),
-    ];
-    let plain = Rc::new(Lexicon::of(&["q"], &[]));
-    let mut inputs = vec![];
-    for store in store_edges::limits() {
-        let scene = Rc::new(Scene::new(&plain, store));
+    let limits = limits();
+    let texts = limits.split('|');
+    let plain = Scene::of(Lexicon::of(&["q"], &[]), vec![]);
+    let stores = each! {
+        for store in store_edges::limits();
+        let scene = plain.with_store(store);
         // the largest stores take their time
         let step = if scene.store.len() > 20_000 { 5 } else { 1 };
-        for text in texts.iter().step_by(step) {
-            inputs.push(input(&scene, text.as_bytes()));
-        }
-        for len in [0, 511, 512, 2_048, 65_536] {
-            inputs.push(Input { spare: vec![7; len], ..input(&scene, b"a:k") });
-        }
-    }
+        let texts = texts.clone().step_by(step).map(|text| input(&scene, text));
+        let spares = [0, 511, 512, 2_048, 65_536].map(|len| vec![7; len]);
+        texts.chain(with(&input(&scene, "a:k"), spares, |input, spare| input.spare = spare))
+    };
     // phones that a line can name, and one that it cannot
-    let odd = ["b:c", ":", "h", "h#", "\"k\"", "k\x1ct"];
-    let scene = Scene::of(Lexicon::of(&odd, &[]), store_edges::good());
-    for text in &texts {
-        inputs.push(input(&scene, text.as_bytes()));
-    }
-    for lexicon in lexicon_edges::limits() {
-        let table = Lexicon::of_table(lexicon.sections.phones.clone());
-        let scene = Rc::new(Scene::new(&table, store_edges::good()));
-        inputs.push(input(&scene, b"a: k\nb: p"));
-    }
-    inputs
+    let odd = Lexicon::of(&["b:c", ":", "h", "h#", "\"k\"", "k\x1ct"], &[]);
+    let odd = Scene::of(odd, store_edges::good());
+    let odd = texts.map(|text| input(&odd, text)).collect();
+    let tables = each! {
+        for lexicon in lexicon_edges::limits();
+        [input(&table(&lexicon, store_edges::good()), "a: k\nb: p")]
+    };
+    [stores, odd, tables].concat()
 }

@@ -1,69 +1,46 @@
 //! Texts of entries.
 
+use crate::calls::adding::Pool;
 use crate::prelude::*;
 
-/// Lines that are no entries; a text stops there.
-const FAULTY: [&[u8]; 10] = [
-    b":",
-    b" : k",
-    b"::",
-    b"a",
-    b"a # : k",
-    b"a #: k",
-    b"\"a\"",
-    b"\"a # b\" : k",
-    b"\x1c",
-    b"a\x1cn\x0bk",
-];
+/// Lines that are no entries, parted by bars; a text stops there.
+const FAULTY: &str = ":| : k|::|a|a # : k|a #: k|\"a\"|\"a # b\" : k|\x1c|a\x1cn\x0bk";
 
-/// What texts are made of: a store beside its phone table, words to add, and phones.
-pub struct Texts<'a> {
-    pub scene: &'a Scene,
-    pub words: &'a [Vec<u8>],
-    pub phones: &'a Phones,
-}
-
-impl Texts<'_> {
+impl Pool {
     /// Some lines, not all of them entries; one in so many is faulty.
     pub fn text(&self, random: &mut Random, faulty: usize) -> Vec<u8> {
-        let comments = [&b"#"[..], b"# a : k", b"#a:zz#:", b"##"];
+        let faults: Vec<&str> = FAULTY.split('|').collect();
+        let comments = ["#", "# a : k", "#a:zz#:", "##"];
         let mut text = vec![];
         for _ in 0..random.weighted(&[1, 4, 4, 3, 2, 1, 1]) {
-            match random.weighted(&[20, 1, 2]) {
-                _ if random.once_in(4 * faulty) => text.extend_from_slice(random.pick(&FAULTY)),
-                0 => text.extend(self.entry(random, faulty)),
-                1 => text.extend(blanks(random, 0)),
-                _ => {
-                    text.extend(blanks(random, 0));
-                    text.extend_from_slice(random.pick(&comments));
-                }
-            }
+            let line = match random.weighted(&[20, 1, 2]) {
+                _ if random.once_in(4 * faulty) => random.pick(&faults).into(),
+                0 => self.entry(random, faulty),
+                1 => blanks(random, 0),
+                _ => [blanks(random, 0), random.pick(&comments).into()].concat(),
+            };
+            text.extend(line);
             text.push(b'\n');
         }
         if random.once_in(2) {
             text.pop();
         }
         if random.once_in(3 * faulty) {
-            let at = random.below(text.len() + 1);
-            text.insert(at, random.byte() | 128);
+            text.insert(random.below(text.len() + 1), random.byte() | 128);
         }
         text
     }
 
     /// A line that adds an entry, or nearly.
     fn entry(&self, random: &mut Random, faulty: usize) -> Vec<u8> {
-        let fault = match random.once_in(faulty) {
-            true => random.between(1, 9),
-            false => 0,
-        };
+        let fault = if random.once_in(faulty) { random.between(1, 9) } else { 0 };
         let count = random.ranged(&[(1, 0, 0), (12, 1, 4), (1, 5, 24), (1, 24, 24)]);
         let (word, tag) = self.key(random);
-        let mut fields = vec![quoted(random, word)];
-        fields.extend(tag);
+        let mut fields: Vec<_> = [quoted(random, word)].into_iter().chain(tag).collect();
         if random.once_in(8) {
-            fields.push(random.pick(&[&b"x"[..], b"nil", b"\x1c"]).to_vec());
+            fields.push(random.pick(&["x", "nil", "\x1c"]).into());
         }
-        let mut phones = store_shapes::known(random, self.scene, self.phones, count);
+        let mut phones = store_shapes::known(random, &self.scene, &self.phones, count);
         match fault {
             1 => fields[0] = vec![b'w'; random.between(48, 52)],
             2 => fields.insert(1, vec![b't'; random.between(48, 52)]),
@@ -74,24 +51,15 @@ impl Texts<'_> {
             _ => {}
         }
         let mut line = blanks(random, 0);
-        for field in &fields {
-            line.extend_from_slice(field);
-            line.extend(blanks(random, 1));
-        }
-        if fault < 8 {
-            line.push(b':');
-        }
-        for phone in &phones {
-            line.extend(blanks(random, 1));
-            line.extend_from_slice(phone);
-        }
+        line.extend(fields.into_iter().flat_map(|field| [field, blanks(random, 1)].concat()));
+        line.extend((fault < 8).then_some(b':'));
+        line.extend(phones.into_iter().flat_map(|phone| [blanks(random, 1), phone].concat()));
         line.extend(blanks(random, 0));
         if random.once_in(8) {
             line.extend_from_slice(b"# : zz");
         }
         if random.once_in(6) {
-            let at = random.below(line.len() + 1);
-            line.insert(at, random.pick_byte(b"::\"\"\x1c\x1c\x0b\r\t#"));
+            line.insert(random.below(line.len() + 1), random.pick_byte(b"::\"\"\x1c\x1c\x0b\r\t#"));
         }
         // the words and names may hold an end of a line, or a high byte in a tag
         line.retain(|b| *b != b'\n' && *b < 128);
@@ -111,8 +79,7 @@ impl Texts<'_> {
             return (words::recased(random, &entry.word), Some(vec![entry.tag]));
         }
         let word = &self.words[random.below(self.words.len())];
-        let word = words::recased(random, word);
-        (word, random.once_in(2).then(|| words::tag(random)))
+        (words::recased(random, word), random.once_in(2).then(|| words::tag(random)))
     }
 }
 

@@ -7,75 +7,63 @@ use crate::prelude::*;
 /// The refusal that 01 gives, if it gives one. Tells what made it.
 pub fn refusal(input: &Input, met: &mut Met) -> Result<(), u32> {
     let Input { scene, given } = input;
-    let Add { wanted, phones } = given;
-    let cells = &phones.cells;
+    let Add { wanted, phones: List { cells, .. } } = given;
     met.refuse(1, scene.lexicon.names.is_none(), || None)?;
     met.sound(&scene.entries)?;
     let high = wanted.is_refused() || cells.iter().any(is_high);
     met.refuse(3, high, || by_3(given))?;
     let unknown = |cell: &Cell| is_over(cell) || !scene.lexicon.knows(text(cell));
     let first = cells.iter().position(unknown);
-    met.refuse(5, first.is_some(), || by_5(phones, first >= Some(MOST_PHONES)))?;
-    let key = key(&wanted.word, &wanted.tag);
-    let entries = scene.entries();
-    let is_known = entries.iter().any(|p| p.entry.key() == key);
-    let lacks_room = entries.len() == stores::room(&scene.store) && !is_known;
+    met.refuse(5, first.is_some(), || by_5(cells, first >= Some(MOST_PHONES)))?;
+    let known = scene.keys();
+    let is_full = known.len() == stores::room(&scene.store);
+    let lacks_room = is_full && !known.contains(&key(&wanted.word, &wanted.tag));
     let count = cells.len();
     met.refuse(7, count > MOST_PHONES, || by_7(count, lacks_room))?;
-    met.refuse(8, lacks_room, || by_8(entries.len()))
+    met.refuse(8, lacks_room, || by_8(known.len()))
 }
 
-/// What the original answers to an add, and its list after it, for each way to hand it the tag.
-fn asked(input: &Input) -> Result<Vec<(Result<(), LexiconError>, Vec<Entry>)>, String> {
+/// What the original answers to an add, and its list after it; the same for each way to hand it the tag.
+fn asked(input: &Input) -> Result<(Result<(), LexiconError>, Vec<Entry>), String> {
     let Add { wanted, phones } = &input.given;
     let phones: Vec<&str> = phones.texts().into_iter().map(ascii).collect();
-    let add = |pos| {
-        ask(|| {
-            let scene = &input.scene;
-            scene.changed(|lexicon| lexicon.add_entry(ascii(&wanted.word), pos, &phones))
-        })
-    };
-    ways(&wanted.tag).into_iter().map(add).collect()
+    let (scene, word) = (&input.scene, ascii(&wanted.word));
+    let add = |pos| ask(|| scene.changed(|lexicon| lexicon.add_entry(word, pos, &phones)));
+    let mut told = ways(&wanted.tag).into_iter().map(add).collect::<Result<Vec<_>, _>>()?;
+    told.dedup();
+    let one = told.pop().filter(|_| told.is_empty());
+    one.ok_or("the original takes no tag and an empty one for two things".into())
 }
 
-/// The original's list after an accepted add, and the store that 01 makes of it.
-pub fn added(input: &Input) -> Result<(Vec<Entry>, Vec<u8>), String> {
+/// The store that 01 makes of the original's list after an add, or its refusal. The original too must refuse a phone
+/// that it does not know, and leave its list as it was.
+pub fn added(input: &Input, met: &mut Met) -> Result<Vec<u8>, Stop> {
     let Input { scene, given } = input;
-    let mut lists = vec![];
-    for (told, list) in asked(input)? {
-        told.map_err(|error| format!("the original refuses: {error}"))?;
-        lists.push(list);
+    let refused = refusal(input, met);
+    if refused != Err(5) || given.phones.cells.iter().any(is_over) {
+        refused?;
     }
-    if lists.iter().any(|list| *list != lists[0]) {
-        return Err("the original takes no tag and an empty one for two things".into());
+    let (told, list) = asked(input)?;
+    let before = scene.entries().iter().map(|placed| &placed.entry);
+    match (refused, told) {
+        (Ok(()), Ok(())) => {}
+        (Err(5), Err(LexiconError::UnknownPhone { .. })) if list.iter().eq(before) => {
+            return Err(Stop::RefusedBeside(5, 0));
+        }
+        (_, told) => Err(format!("the original says {told:?}, or alters its list"))?,
     }
-    let list = lists.swap_remove(0);
     let key = key(&given.wanted.word, &given.wanted.tag);
     let slot = scene.slot_for(&key);
     let store = scene.store_of(&[key], &list)?;
     let stray = stores::stray(&scene.store, &store, slot);
     assert!(stray.is_none(), "the driver writes a byte that the add has no part in");
-    Ok((list, store))
-}
-
-/// The original's refusal of a phone that it does not know, which leaves its list as it was.
-pub fn refused_by_the_original(input: &Input) -> Result<(), String> {
-    for (told, list) in asked(input)? {
-        let before = input.scene.entries().iter().map(|placed| &placed.entry);
-        let kept = list.iter().eq(before);
-        match told {
-            Err(LexiconError::UnknownPhone { .. }) if kept => {}
-            _ => return Err("the original knows the phones, or alters its list".into()),
-        }
-    }
-    Ok(())
+    Ok(store)
 }
 
 rows! { pub ROWS:
     /// What a word, a tag or a phone has that is refused by 3.
     by_3(given: &Add) {
-        let Add { wanted, phones } = given;
-        let cells = &phones.cells;
+        let Add { wanted, phones: List { cells, .. } } = given;
         let (front, behind) = cells.split_at(cells.len().min(MOST_PHONES));
     } [
         "3: long word" => wanted.word.len() > words::LONGEST,
@@ -88,8 +76,8 @@ rows! { pub ROWS:
     ]
 
     /// What phones have that are refused by 5.
-    by_5(phones: &List, past_the_24th: bool) {
-        let over = phones.cells.iter().any(is_over);
+    by_5(cells: &[Cell], past_the_24th: bool) {
+        let over = cells.iter().any(is_over);
     } [
         "5: phone in no table" => !over,
         "5: cell over 15" => over,
@@ -109,9 +97,10 @@ rows! { pub ROWS:
         "8: 127 entries" => entries == 127,
     ]
 
-    /// What an add of a new key met, which made so many entries.
-    of_new(scene: &Scene, word: &[u8], entries: usize) {
+    /// What an add of a new key met.
+    of_new(scene: &Scene, word: &[u8]) {
         let before = scene.entries();
+        let entries = before.len() + 1;
         let slot = &scene.store[SLOT * entries..][..SLOT];
     } [
         "new: the first entry" => before.is_empty(),

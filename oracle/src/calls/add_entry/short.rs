@@ -1,6 +1,7 @@
 //! The short inputs of add_entry.
 
 use super::Input;
+use crate::calls::adding::table;
 use crate::prelude::*;
 
 pub fn inputs(phones: &Phones) -> Vec<Input> {
@@ -14,8 +15,7 @@ pub fn input(
     phones: &[impl AsRef<[u8]>],
 ) -> Input {
     let wanted = Wanted::new(word.as_ref(), tag.as_ref());
-    let phones = List::of(phones);
-    Input::new(scene.clone(), Add { wanted, phones })
+    Input::new(scene.clone(), Add { wanted, phones: List::of(phones) })
 }
 
 /// Every add over two words and some tags, on every store that up to three adds leave, with room and
@@ -48,26 +48,20 @@ fn single_phones(phones: &Phones) -> Vec<Input> {
     let lengths = each! {
         for scene in &scenes;
         for len in 0..=255;
-        [(&b"t"[..], 0), (b"abcdefghijklmno", b'o'), (b"", 0), (b"t", 200)].map(|(text, last)| {
-            let mut given = cell(text);
-            (given[0], given[15]) = (len, last);
-            with_cells(scene, given)
+        let cells = [(&b"t"[..], 0), (b"abcdefghijklmno", b'o'), (b"", 0), (b"t", 200)]
+            .map(|(text, last)| odd_cell(len, text, last));
+        with(&input(scene, "a", "n", &[""]), cells, |input, cell| {
+            input.given.phones.cells[0] = cell;
         })
     };
     [short, lengths].concat()
 }
 
-/// An add with this cell alone.
-fn with_cells(scene: &Rc<Scene>, given: Cell) -> Input {
-    let mut input = input(scene, "a", "n", &[""]);
-    input.given.phones.cells[0] = given;
-    input
-}
-
-/// A phone table of a lexicon, beside a store.
-fn table(lexicon: &Lexicon, store: Vec<u8>) -> Rc<Scene> {
-    let table = Lexicon::of_table(lexicon.sections.phones.clone());
-    Rc::new(Scene::new(&table, store))
+/// A cell of this text with another length byte and another last byte.
+fn odd_cell(len: u8, text: &[u8], last: u8) -> Cell {
+    let mut cell = cell(text);
+    (cell[0], cell[15]) = (len, last);
+    cell
 }
 
 /// A store with each of its bytes altered, and a phone table with each of its bytes altered.
@@ -87,66 +81,44 @@ fn altered_bytes() -> Vec<Input> {
 
 /// Tables, stores, words, tags and lists at 01's limits, and just past them.
 fn edges() -> Vec<Input> {
-    let mut inputs = vec![];
-    for lexicon in lexicon_edges::limits() {
-        for store in [store_edges::good(), stores::new(1, 0), vec![1; 512]] {
-            let scene = table(&lexicon, store);
-            let lists: [&[&str]; 5] = [&[], &["k"], &["p"], &[""], &["ppppppppppppppp"]];
-            for phones in lists {
-                inputs.push(input(&scene, "lead", "v", phones));
-                inputs.push(input(&scene, "new", "", phones));
-            }
-            inputs.push(input(&scene, [b'a'; 48], "", &["q"]));
-        }
-    }
-    // the last entry again
+    let phones: [&[&str]; 5] = [&[], &["k"], &["p"], &[""], &["ppppppppppppppp"]];
+    let tables = each! {
+        for lexicon in lexicon_edges::limits();
+        for store in [store_edges::good(), stores::new(1, 0), vec![1; 512]];
+        let scene = table(&lexicon, store);
+        let both = |phones| [input(&scene, "lead", "v", phones), input(&scene, "new", "", phones)];
+        phones.map(both).into_iter().flatten().chain([input(&scene, [b'a'; 48], "", &["q"])])
+    };
     let good = Scene::of(Lexicon::of(&["", "q"], &[]), store_edges::good());
-    inputs.push(input(&good, "LEAD", "vb", &["l", "iy"]));
-    for store in store_edges::limits() {
+    let last_again = input(&good, "LEAD", "vb", &["l", "iy"]);
+    let stores = each! {
+        for store in store_edges::limits();
         let scene = good.with_store(store);
-        for word in words::edges() {
-            inputs.push(input(&scene, word, "", &["k"]));
-        }
-        for tag in words::tags() {
-            for word in ["lead", "a", "A", "w0", "w126"] {
-                inputs.push(input(&scene, word, &tag, &["k", "q", ""]));
-            }
-        }
-        inputs.extend(lists(&scene));
-    }
-    inputs
+        let words = words::edges().into_iter().map(|word| input(&scene, word, "", &["k"]));
+        let tags = each! {
+            for tag in words::tags();
+            ["lead", "a", "A", "w0", "w126"].map(|word| input(&scene, word, &tag, &["k", "q", ""]))
+        };
+        words.chain(tags).chain(lists(&scene))
+    };
+    [tables, vec![last_again], stores].concat()
 }
 
 /// Lists at 01's limits: 3 and 5 look at every cell, also past the 24th and the 96th.
 fn lists(scene: &Rc<Scene>) -> Vec<Input> {
-    let mut inputs = vec![];
-    let with = |bytes: &[(usize, u8)]| {
-        let mut cell = cell(b"t");
-        bytes.iter().for_each(|(at, byte)| cell[*at] = *byte);
-        cell
-    };
-    let (high, long, past) = (with(&[(1, 200)]), with(&[(0, 16)]), with(&[(2, 200)]));
-    let both = with(&[(0, 16), (15, 128)]);
-    for count in [0, 1, 23, 24, 25, 26, 96, 97] {
-        for word in ["lead", "new"] {
-            let known = input(scene, word, "v", &vec!["t"; count]);
-            let mut add = |phones: List| {
-                let mut input = known.clone();
-                input.given.phones = phones;
-                inputs.push(input);
-            };
-            let list = &known.given.phones;
-            for rest in [0, 1, 15] {
-                let rest = vec![255; rest];
-                let cells = list.cells.clone();
-                add(List { cells, rest });
-            }
-            for at in [0, 23, 24, 95, 96].into_iter().filter(|at| *at < count) {
-                for other in [cell(b"zz"), cell(b""), cell(b"q"), high, long, past, both] {
-                    add(list.with(at, other));
-                }
-            }
-        }
+    let (high, long) = (cell(&[200]), odd_cell(16, b"t", 0));
+    let (past, both) = (odd_cell(1, b"t\xc8", 0), odd_cell(16, b"t", 128));
+    each! {
+        for count in [0, 1, 23, 24, 25, 26, 96, 97];
+        for word in ["lead", "new"];
+        let plain = input(scene, word, "v", &vec!["t"; count]);
+        let list = &plain.given.phones;
+        let rests = [0, 1, 15].map(|rest| List { rest: vec![255; rest], ..list.clone() });
+        let others = each! {
+            for at in [0, 23, 24, 95, 96].into_iter().filter(|at| *at < count);
+            let cells = [cell(b"zz"), cell(b""), cell(b"q"), high, long, past, both];
+            cells.map(|other| list.with(at, other))
+        };
+        with(&plain, rests.into_iter().chain(others), |input, list| input.given.phones = list)
     }
-    inputs
 }

@@ -1,124 +1,132 @@
-//! The book beside a list of calls: the original with its own entries, and the words of the sheet.
+//! The book beside a list of calls: 01 and the original, which has its own entries and the words of the sheet.
 
-use super::{Act, Sections};
+use super::run::Side;
+use super::state::State;
+use super::{Act, Sections, CALLS};
 use crate::prelude::*;
 use crate::scene::entry;
+use crate::sheets::Reading;
 use crate::spoken::Word;
 use original::lexicon::probe;
 use std::mem::take;
 
-pub struct Book {
-    sections: Rc<Sections>,
+pub struct Book<'a> {
+    sections: &'a Sections,
     /// The original with its entries; none if it cannot take any.
     entries: Option<lexicon::Lexicon>,
-    /// The words of the sheet that were said before the last add, and their phone strings.
+    sheet: Sheet,
+    met: &'a mut Met,
+    /// Whether a text stopped behind lines that it took.
+    stops: bool,
+    /// Whether the call before was refused.
+    refused: bool,
+}
+
+/// The words of a sheet. The original says those since the last add in one utterance.
+#[derive(Default)]
+pub struct Sheet {
+    wanted: Vec<Wanted>,
+    /// The words that were said before the last add, and their phone strings.
     said: Vec<Word>,
     strings: Vec<String>,
-    /// Words since then. The original says these in one utterance.
-    pending: Vec<Wanted>,
-    /// All words of the sheet.
-    wanted: Vec<Wanted>,
     /// How many utterances the original said.
     parts: usize,
-    /// Whether a text stopped behind lines that it took.
-    pub stops: bool,
-    /// Whether a word came behind such a text.
+    /// Whether a word came behind a text that stopped behind lines that it took.
     behind_stop: bool,
 }
 
-impl Book {
-    pub fn new(sections: &Rc<Sections>) -> Book {
+impl<'a> Book<'a> {
+    pub fn new(sections: &'a Sections, met: &'a mut Met) -> Book<'a> {
         let table = &sections.table;
-        Book {
-            sections: sections.clone(),
-            entries: table.names.as_ref().map(|_| table.original().clone()),
-            said: vec![],
-            strings: vec![],
-            pending: vec![],
-            wanted: vec![],
-            parts: 0,
-            stops: false,
-            behind_stop: false,
-        }
+        let entries = table.names.as_ref().map(|_| table.original().clone());
+        Book { sections, entries, sheet: Sheet::default(), met, stops: false, refused: false }
     }
 
-    /// A call that was not refused.
-    pub fn take(&mut self, act: &Act) -> Result<(), String> {
+    /// A call that was not refused. The words before an add saw the old entries.
+    fn take(&mut self, act: &Act) -> Result<(), String> {
         match act {
-            Act::NewSheet => {}
+            Act::NewSheet => return Ok(()),
             Act::SayWord(wanted) => {
-                self.behind_stop |= self.stops;
-                self.pending.push(wanted.clone());
-                self.wanted.push(wanted.clone());
+                self.sheet.behind_stop |= self.stops;
+                self.sheet.wanted.push(wanted.clone());
+                return Ok(());
             }
+            _ => self.say()?,
+        }
+        let entries = self.entries.as_mut().ok_or("entries without a table")?;
+        let told = ask(|| match act {
             Act::AddEntry(Add { wanted, phones }) => {
                 let phones: Vec<&str> = phones.texts().into_iter().map(ascii).collect();
-                let tag = (!wanted.tag.is_empty()).then_some(ascii(&wanted.tag));
-                self.change(|lexicon| lexicon.add_entry(ascii(&wanted.word), tag, &phones))?;
+                entries.add_entry(ascii(&wanted.word), ways(&wanted.tag)[0], &phones)
             }
-            Act::AddText { text, .. } => {
-                self.change(|lexicon| lexicon.add_entries(ascii(text)).map(drop))?;
-            }
-        }
-        Ok(())
+            Act::AddText { text, .. } => entries.add_entries(ascii(text)).map(drop),
+            _ => Ok(()),
+        });
+        told?.map_err(|error| format!("the original refuses: {error}"))
     }
 
-    /// Changes the entries; the words before saw the old ones.
-    fn change(
-        &mut self,
-        change: impl FnOnce(&mut lexicon::Lexicon) -> Result<(), LexiconError>,
-    ) -> Result<(), String> {
-        self.say()?;
-        let entries = self.entries.as_mut().ok_or("entries without a table")?;
-        ask(|| change(entries))?.map_err(|error| format!("the original refuses: {error}"))
-    }
-
-    /// Says the words that are pending, in one utterance.
+    /// Says the words that were not said yet, in one utterance.
     fn say(&mut self) -> Result<(), String> {
-        let pending = take(&mut self.pending);
+        let pending = self.sheet.wanted.get(self.sheet.said.len()..).unwrap_or_default();
         let (Some(entries), false) = (&self.entries, pending.is_empty()) else {
             return Ok(());
         };
         let lexicon = self.sections.lexicon.original();
         let lexicon = probe::with_added(lexicon, probe::added(entries).to_vec());
-        let said = spoken::say(&lexicon, self.sections.trees.original(), &pending)?;
+        let said = spoken::say(&lexicon, self.sections.trees.original(), pending)?;
         if said.words.iter().any(|word| !word.syllables.is_empty()) {
-            self.strings.push(said.phone_string);
+            self.sheet.strings.push(said.phone_string);
         }
-        self.said.extend(said.words);
-        self.parts += 1;
+        self.sheet.said.extend(said.words);
+        self.sheet.parts += 1;
         Ok(())
     }
+}
 
-    /// Drops the words; tells them and their phone string.
-    pub fn close(&mut self, met: &mut Met) -> Result<(Vec<Word>, String), String> {
-        self.say()?;
-        met.all(utterance(self));
-        self.wanted.clear();
-        self.behind_stop = false;
-        self.parts = 0;
-        let strings = take(&mut self.strings);
-        Ok((take(&mut self.said), strings.join(" ")))
+impl Side for Book<'_> {
+    const SCENE: fn(&Rc<Lexicon>, Vec<u8>) -> Scene = Scene::new;
+
+    fn outcome<C: Call>(&mut self, act: Option<&Act>, input: &C::Input) -> Result<Outcome, String> {
+        let expected = C::default().expected(input);
+        let outcome = expected.outcome?;
+        if let Some(act) = act {
+            let accepted = outcome.answer.refusal == 0;
+            let name = format!("{}: {}", C::NAME, expected.row);
+            let row = CALLS.iter().copied().flatten().find(|row| **row == name);
+            self.met.row(row.unwrap_or_else(|| panic!("the table has no row {name}")));
+            self.met.row("calls in all");
+            self.met.add("refused call, then an accepted one", self.refused && accepted);
+            self.refused = !accepted;
+            self.stops |= expected.met.contains(&"stop: earlier lines in the spare");
+            if accepted {
+                self.take(act)?;
+            }
+        }
+        Ok(outcome)
     }
 
-    /// Whether a store holds these entries, in this order.
-    pub fn is_in(&self, store: &[u8]) -> Result<(), String> {
-        let own: Vec<Entry> = match &self.entries {
-            Some(lexicon) => probe::added(lexicon).iter().map(entry).collect(),
-            None => vec![],
-        };
-        let placed = stores::read(store).map_err(|why| why.to_string())?;
-        match placed.iter().map(|placed| &placed.entry).eq(&own) {
-            true => Ok(()),
-            false => Err("the original's entries are not the store's".into()),
+    /// The driver's sheet must read as the words that the original says, and the store hold its entries.
+    fn close(&mut self, state: &State) -> Result<(Answer, Vec<u8>), String> {
+        self.say()?;
+        self.met.row("phone_string: at an utterance's end");
+        self.met.all(utterance(&self.sheet));
+        let Sheet { said, strings, .. } = take(&mut self.sheet);
+        if sheets::reading(&state.sheet) != Some(Reading::of(&said)) {
+            return Err("the original says otherwise word by word than in a row".into());
         }
+        let own = self.entries.iter().flat_map(probe::added).map(entry);
+        if !own.eq(stores::read(&state.store)?.into_iter().map(|placed| placed.entry)) {
+            return Err("the original's entries are not the store's".into());
+        }
+        let phones = strings.join(" ").into_bytes();
+        Ok((Answer::accepted(0, phones.len()), phones))
     }
 }
 
 rows! { pub ROWS:
     /// What the words of a sheet met.
-    utterance(book: &Book) {
-        let said: Vec<_> = book.wanted.iter().zip(&book.said).collect();
+    utterance(sheet: &Sheet) {
+        let said: Vec<_> = sheet.wanted.iter().zip(&sheet.said).collect();
         let otherwise = |i: usize| {
             let mut later = said[i + 1..].iter();
             later.any(|(wanted, word)| *wanted == said[i].0 && *word != said[i].1)
@@ -126,13 +134,13 @@ rows! { pub ROWS:
         let words = said.len();
     } [
         "utterance without words" => words == 0,
-        "utterance without phones" => words > 0 && book.strings.is_empty(),
+        "utterance without phones" => words > 0 && sheet.strings.is_empty(),
         "utterance of one word" => words == 1,
         "utterance of 2 to 10 words" => (2..=10).contains(&words),
         "utterance of more words" => words > 10,
-        "utterance that saw one list of entries" => book.parts == 1,
-        "utterance that saw several" => book.parts > 1,
+        "utterance that saw one list of entries" => sheet.parts == 1,
+        "utterance that saw several" => sheet.parts > 1,
         "word that is said otherwise the second time" => (0..words).any(otherwise),
-        "text that stops behind lines taken, then a word" => book.behind_stop,
+        "text that stops behind lines taken, then a word" => sheet.behind_stop,
     ]
 }

@@ -6,34 +6,11 @@ use crate::prelude::*;
 use crate::sheets::LARGEST;
 use crate::tree_edges::one_leaf;
 
-fn say(word: &str, tag: &str) -> Act {
-    Act::SayWord(Wanted::new(word, tag))
-}
-
-fn add(word: &str, tag: &str, phones: &str) -> Act {
-    Act::AddEntry(store_edges::add(word, tag, phones))
-}
-
-fn text(text: &str) -> Act {
-    Act::AddText { text: text.into(), fill: 0x9e, spare: None }
-}
-
-pub fn inputs() -> Vec<Input> {
-    let rows = [row("a", b'n', &[0]), row("c", b'n', &[1, 2, 1, 9])];
-    let lexicon = Rc::new(Lexicon::of(&["ey1", "t", "ax0"], &rows));
-    let trees = Rc::new(one_leaf(b"b-iy1"));
-    let mut cut = trees.sections.clone();
-    cut.index.truncate(51);
-    let sections = Sections::new(&lexicon, &trees);
-    let broken = Sections::new(&lexicon, &Rc::new(Trees::new(cut, vec![])));
-    let list = |steps: Vec<Step>, slots: usize, len: usize| Input {
-        sections: sections.clone(),
-        broken: broken.clone(),
-        store: vec![0xd1; SLOT * slots],
-        sheet: vec![0x4c; len],
-        steps,
-    };
-    // one of each answer, and words that the others change
+/// One call of each answer, and words that the others change.
+fn calls() -> [Step; 10] {
+    let say = |word: &str, tag: &str| Act::SayWord(Wanted::new(word, tag));
+    let add = |word, tag, phones| Act::AddEntry(store_edges::add(word, tag, phones));
+    let text = |text: &str| Act::AddText { text: text.into(), fill: 0x9e, spare: None };
     let acts = [
         Act::NewSheet,
         say("a", ""),
@@ -46,14 +23,31 @@ pub fn inputs() -> Vec<Input> {
         say("c", ""),
         say(&"a".repeat(48), ""),
     ];
-    let numbers: Vec<u8> = (0..acts.len() as u8).collect();
-    let step = |n: &u8| Step { act: acts[usize::from(*n)].clone(), broken: false };
-    let steps = |numbers: &[u8]| -> Vec<Step> { numbers.iter().map(step).collect() };
-    let every = each! {
-        for (i, numbers) in words::every(&numbers, 4).iter().enumerate();
-        // a sheet that is soon full, and one with room; one slot, or two, that entries can have
-        [list(steps(numbers), 2 + i / 2 % 2, [9 * ITEM + 5, 40 * ITEM][i % 2])]
+    acts.map(|act| Step { act, broken: false })
+}
+
+pub fn inputs() -> Vec<Input> {
+    let rows = [row("a", b'n', &[0]), row("c", b'n', &[1, 2, 1, 9])];
+    let lexicon = Rc::new(Lexicon::of(&["ey1", "t", "ax0"], &rows));
+    let trees = one_leaf(b"b-iy1");
+    let mut cut = trees.sections.clone();
+    cut.index.truncate(51);
+    let sections = Sections::new(lexicon.clone(), Rc::new(trees));
+    let broken = Sections::new(lexicon, Rc::new(Trees::new(cut, vec![])));
+    let list = |steps: Vec<Step>, slots: usize, len: usize| Input {
+        sections: sections.clone(),
+        broken: broken.clone(),
+        store: vec![0xd1; SLOT * slots],
+        sheet: vec![0x4c; len],
+        steps,
     };
+    let calls = calls();
+    let every = each! {
+        for (i, steps) in words::every(&calls, 4).into_iter().enumerate();
+        // a sheet that is soon full, and one with room; one slot, or two, that entries can have
+        [list(steps, 2 + i / 2 % 2, [9 * ITEM + 5, 40 * ITEM][i % 2])]
+    };
+    let steps = |numbers: &[usize]| numbers.iter().map(|n| calls[*n].clone()).collect::<Vec<_>>();
     // sheets of the shortest and the longest length
     let lengths = each! {
         for len in [ITEM, 2 * ITEM - 1, 2 * ITEM, 4 * ITEM, LARGEST - 1, LARGEST];

@@ -2,45 +2,26 @@
 
 use super::Input;
 use crate::lexicon_edges::row;
-use crate::lexicons::Row;
 use crate::prelude::*;
 
 pub fn inputs() -> Vec<Input> {
-    [
-        edges(),
-        addenda_with_all_tags(),
-        small_lexicons(),
-        large_lexicons(),
-        small_stores(),
-        altered_bytes(),
-    ]
-    .concat()
+    [edges(), addenda_with_all_tags(), lexicons(), small_stores(), altered_bytes()].concat()
+}
+
+/// A small lexicon in good order beside a store.
+pub fn good(store: Vec<u8>) -> Rc<Scene> {
+    Scene::of(Lexicon::new(lexicon_edges::good()), store)
 }
 
 /// The addenda with some tags, and the words at 01's limits, beside a small lexicon and a small store.
 pub fn fixed() -> Vec<Input> {
-    let scene = Scene::of(Lexicon::new(lexicon_edges::good()), store_edges::good());
-    let accepted = |word: &Vec<u8>| !words::is_refused(word);
-    let addenda = lexicon_shapes::addenda().into_iter();
-    let mut inputs = [
-        each! {
-            for (word, tag) in addenda.zip(["", "n", "p", "0", "v"].iter().cycle());
-            [input(&scene, word, tag, Size::Exact)]
-        },
-        each! {
-            for word in words::edges().into_iter().filter(accepted);
-            [input(&scene, word, "", Size::Exact)]
-        },
-        each! {
-            for tag in words::tags().into_iter().filter(accepted);
-            ["Lead", "b"].map(|word| input(&scene, word, &tag, Size::Exact))
-        },
-    ]
-    .concat();
-    for input in &mut inputs {
-        input.room.step = 0;
-    }
-    inputs
+    let scene = good(store_edges::good());
+    let room = Room { step: 0, ..Room::of(Size::Exact) };
+    let tags = ["", "n", "p", "0", "v"].into_iter().cycle();
+    let addenda = lexicon_shapes::addenda().into_iter().zip(tags);
+    let addenda = addenda.map(|(word, tag)| Wanted::new(word, tag));
+    let limits = words::limits(&["Lead", "b"]).into_iter().filter(|wanted| !wanted.is_refused());
+    addenda.chain(limits).map(|wanted| Input::new(scene.clone(), wanted, room)).collect()
 }
 
 fn input(scene: &Rc<Scene>, word: impl AsRef<[u8]>, tag: impl AsRef<[u8]>, size: Size) -> Input {
@@ -53,23 +34,18 @@ fn input(scene: &Rc<Scene>, word: impl AsRef<[u8]>, tag: impl AsRef<[u8]>, size:
 fn addenda_with_all_tags() -> Vec<Input> {
     let mut words: Vec<&str> = lexicon_shapes::addenda();
     words.sort();
-    let rows: Vec<Row> = words.iter().map(|word| row(word, b'q', &[0])).collect();
-    let tags = ["n", "p", "nil"].iter().cycle();
-    let adds = words.iter().zip(tags);
+    let rows: Vec<_> = words.iter().map(|word| row(word, b'q', &[0])).collect();
+    let adds = words.iter().zip(["n", "p", "nil"].iter().cycle());
     let adds: Vec<Add> = adds.map(|(word, tag)| store_edges::add(word, tag, "k ae t")).collect();
     let alone = Scene::of(Lexicon::of::<&str>(&[], &[]), stores::new(1, 0));
-    let beside = alone.with_store(stores::new(60, 0));
-    let scenes = [
-        beside.with_store(beside.grown(&adds)),
-        alone,
-        Scene::of(Lexicon::of(&["qq"], &rows), stores::new(2, 0xee)),
-    ];
+    let runtime = alone.with_store(store_edges::grown(60, 0, &adds));
+    let compiled = Scene::of(Lexicon::of(&["qq"], &rows), stores::new(2, 0xee));
+    let scenes = [runtime, alone, compiled];
     let tags = [(0..128).map(|tag| vec![tag]).collect(), words::tags()].concat();
     let all_tags = each! {
         for scene in &scenes;
         for word in &words;
-        for tag in &tags;
-        [input(scene, word, tag, Size::Exact)]
+        tags.iter().map(|tag| input(scene, word, tag, Size::Exact))
     };
     let near = each! {
         for scene in &scenes;
@@ -85,28 +61,26 @@ fn addenda_with_all_tags() -> Vec<Input> {
     [all_tags, near, single_bytes].concat()
 }
 
-/// Every small lexicon, sorted or not, with and without damage.
-fn small_lexicons() -> Vec<Input> {
-    each! {
+/// Every small lexicon, sorted or not, with and without damage; and some words of large ones, their first and last
+/// ones among them, and words beside them.
+fn lexicons() -> Vec<Input> {
+    let small = each! {
         for lexicon in lexicon_edges::small(4);
         let scene = Rc::new(Scene::new(&lexicon, stores::new(1, 0)));
         let few = lexicon.count() < 4;
         for word in &["a", "b", "", "ab", "A"][..if few { 5 } else { 2 }];
         for tag in &["", "n", "q", "nil"][..if few { 4 } else { 3 }];
         [input(&scene, word, tag, Size::Exact)]
-    }
-}
-
-/// Some words of large lexicons, their first and last ones among them, and words beside them.
-fn large_lexicons() -> Vec<Input> {
-    each! {
+    };
+    let large = each! {
         for lexicon in lexicon_edges::large();
         let scene = Rc::new(Scene::new(&lexicon, stores::new(2, 0x44)));
         for i in (0..3_000).step_by(23).chain([1, 2, 2_998, 2_999, 3_000]);
         let word = format!("W{i:04}");
         [(&word[..], "v"), (&word, ""), (&word[..4], "n"), (&word[1..], "n")]
             .map(|(word, tag)| input(&scene, word, tag, Size::Exact))
-    }
+    };
+    [small, large].concat()
 }
 
 /// Every store that up to three adds over two words and three tags leave.
@@ -123,59 +97,51 @@ fn small_stores() -> Vec<Input> {
 
 /// A store with each of its bytes altered, and a lexicon with each of its bytes altered.
 fn altered_bytes() -> Vec<Input> {
-    let good = Scene::of(Lexicon::new(lexicon_edges::good()), store_edges::good());
-    let stores = each! {
-        for (i, store) in store_edges::altered_bytes().into_iter().enumerate();
-        [input(&good.with_store(store), ["lead", "a"][i % 2], "", Size::Exact)]
-    };
+    let good = good(store_edges::good());
+    let stores = store_edges::altered_bytes().into_iter().zip(["lead", "a"].iter().cycle());
+    let stores = stores.map(|(store, word)| input(&good.with_store(store), word, "", Size::Exact));
     let lexicons = each! {
         for lexicon in lexicon_edges::altered_bytes();
         let scene = good.with_lexicon(&lexicon);
         [("a", "v"), ("b", "q"), ("ab", ""), ("c", "n"), ("lead", "")]
             .map(|(word, tag)| input(&scene, word, tag, Size::Exact))
     };
-    [stores, lexicons].concat()
+    stores.chain(lexicons).collect()
 }
 
 /// Sections, stores, words, tags and outputs at 01's limits, and just past them.
 fn edges() -> Vec<Input> {
-    let scenes: Vec<Rc<Scene>> = (lexicon_edges::limits().iter())
-        .map(|lexicon| Rc::new(Scene::new(lexicon, stores::new(1, 0))))
-        .collect();
-    let sections = each! {
-        for scene in &scenes;
-        for size in [Size::Exact, Size::More(1), Size::Short(1), Size::Short(16)];
-        for word in ["a", "b", "ab", "", "in"];
-        ["", "n", "q"].map(|tag| input(scene, word, tag, size))
-    };
-    let words = each! {
-        for scene in &scenes;
-        for word in [vec![b'a'; 46], vec![b'a'; 47], vec![b'a'; 48], vec![b'a'; 255], vec![127], vec![128]];
-        [input(scene, word, "n", Size::Exact)]
-    };
-    // a lower refusal goes before a higher one
-    let ranks = each! {
-        for scene in &scenes;
+    let good = good(stores::new(1, 0));
+    let lexicons = each! {
+        for lexicon in lexicon_edges::limits();
+        let scene = good.with_lexicon(&lexicon);
+        let sizes = each! {
+            for size in [Size::Exact, Size::More(1), Size::Short(1), Size::Short(16)];
+            for word in ["a", "b", "ab", "", "in"];
+            ["", "n", "q"].map(|tag| input(&scene, word, tag, size))
+        };
+        let long = [46, 47, 48, 255].map(|len| vec![b'a'; len]);
+        let words = long.into_iter().chain([vec![127], vec![128]]);
+        let words = words.map(|word| input(&scene, word, "n", Size::Exact));
+        // a lower refusal goes before a higher one
         let unsound = scene.with_store(vec![1; 512]);
-        [
-            input(scene, "a", "n", Size::Short(usize::MAX)),
+        let ranks = [
+            input(&scene, "a", "n", Size::Short(usize::MAX)),
             input(&unsound, "a", "", Size::Exact),
             input(&unsound, [b'a'; 48], "", Size::Exact),
-        ]
+        ];
+        words.chain(ranks).chain(sizes)
     };
-    let good = Scene::of(Lexicon::new(lexicon_edges::good()), vec![]);
-    let stores: Vec<Rc<Scene>> =
-        (store_edges::limits().into_iter()).map(|store| good.with_store(store)).collect();
-    let edge_words = each! {
-        for scene in &stores;
-        for word in words::edges();
-        [input(scene, word, "", Size::Exact)]
+    let stores = each! {
+        for store in store_edges::limits();
+        let scene = good.with_store(store);
+        let words = words::edges().into_iter().map(|word| input(&scene, word, "", Size::Exact));
+        let tags = each! {
+            for tag in words::tags();
+            [("a", Size::More(1)), ("lead", Size::Exact), ("Lead", Size::Short(1))]
+                .map(|(word, size)| input(&scene, word, &tag, size))
+        };
+        words.chain(tags)
     };
-    let edge_tags = each! {
-        for scene in &stores;
-        for tag in words::tags();
-        [("a", Size::More(1)), ("lead", Size::Exact), ("Lead", Size::Short(1))]
-            .map(|(word, size)| input(scene, word, &tag, size))
-    };
-    [sections, words, ranks, edge_words, edge_tags].concat()
+    [lexicons, stores].concat()
 }

@@ -1,25 +1,15 @@
 //! What 01 says of a word: its refusal, or where its phones come from.
 
 use super::Input;
-use crate::calls::lookup::{self, Source};
+use crate::calls::lookup::{self, Origin};
 use crate::calls::predict;
 use crate::lexicons::Compiled;
 use crate::prelude::*;
-use crate::sheets::Placed;
 use crate::spoken::Word;
 
-/// Where the phones of a word come from, and the phones with their digits.
-pub struct Origin {
-    /// The row of the table.
-    pub row: &'static str,
-    pub phones: Vec<Vec<u8>>,
-}
-
-impl Origin {
-    /// The phones without their digits.
-    pub fn bare(&self) -> Vec<&[u8]> {
-        self.phones.iter().map(|phone| split(phone).0).collect()
-    }
+/// The phones of a word without their digits.
+pub fn bare(origin: &Origin) -> Vec<&[u8]> {
+    origin.phones.iter().map(|phone| split(phone).0).collect()
 }
 
 /// A phone without its digit, and the digit.
@@ -41,16 +31,10 @@ pub fn origin(input: &Input, met: &mut Met) -> Result<Origin, u32> {
     let unsound = by_2(store.is_some(), sheet.is_some());
     let whys = || store.into_iter().chain(sheet).chain(unsound);
     met.refuse(2, store.is_some() || sheet.is_some(), whys)?;
-    let word_too = words::is_refused(&wanted.word);
-    met.refuse(3, wanted.is_refused(), || by_3(word_too))?;
+    met.refuse(3, wanted.is_refused(), || by_3(words::is_refused(&wanted.word)))?;
     met.refuse(6, found.is_err(), || ["6: compiled entry"])?;
-    if let Ok(Some((source, phones))) = found {
-        let row = match source {
-            Source::Runtime => "runtime",
-            Source::Addenda => "addenda",
-            Source::Compiled => "compiled",
-        };
-        return Ok(Origin { row, phones });
+    if let Ok(Some(origin)) = found {
+        return Ok(origin);
     }
     let walk = predict::refusal(trees, &wanted.word, &mut Met::default());
     met.refuse(6, walk.is_err(), || ["6: letter tree"])?;
@@ -62,13 +46,10 @@ pub fn origin(input: &Input, met: &mut Met) -> Result<Origin, u32> {
 
 rows! { pub ROWS:
     /// Which sections are refused by 1, by what lookup says without the letter trees.
-    by_1(found: &Result<lookup::Found, u32>) {
-        let lexicon = matches!(found, Err(1));
-        let has = matches!(found, Ok(Some(_)));
-    } [
-        "1: lexicon" => lexicon,
-        "1: letter trees alone, for a word that lookup has" => has,
-        "1: letter trees alone, otherwise" => !lexicon && !has,
+    by_1(found: &Result<Option<Origin>, u32>) [
+        "1: lexicon" => matches!(found, Err(1)),
+        "1: letter trees alone, for a word that lookup has" => matches!(found, Ok(Some(_))),
+        "1: letter trees alone, otherwise" => !matches!(found, Err(1) | Ok(Some(_))),
     ]
 
     /// What is refused by 2.
@@ -86,8 +67,7 @@ rows! { pub ROWS:
 
     /// What a word has that is said by its letters.
     by_letters(input: &Input) {
-        let Input { scene, trees, wanted, .. } = input;
-        let word = &wanted.word;
+        let Input { scene, trees, wanted: Wanted { word, .. }, .. } = input;
         let other = |entry: Compiled| entry.word != word && entry.word.eq_ignore_ascii_case(word);
         let mut compiled = (0..scene.lexicon.count().min(100)).map(|i| scene.lexicon.entry(i));
     } [
@@ -112,7 +92,7 @@ rows! { pub ROWS:
 
     /// What the phones and the syllables of an accepted word have.
     spoken(origin: &Origin, word: &Word) {
-        let bare = origin.bare();
+        let bare = bare(origin);
         let syllables = &word.syllables;
         let is_vowel = |phone: &Vec<u8>| phoneset::is_vowel(ascii(phone));
         let whole: Vec<&str> = origin.phones.iter().map(|phone| ascii(phone)).collect();
@@ -136,32 +116,28 @@ rows! { pub ROWS:
     digits(origin: &Origin, word: &Word) {
         let split: Vec<(&[u8], Option<u8>)> = origin.phones.iter().map(|p| split(p)).collect();
         // the digits of each syllable
-        let mut rest = &split[..];
-        let mut parts: Vec<Vec<u8>> = vec![];
-        for syllable in &word.syllables {
-            let (own, behind) = rest.split_at(syllable.phones.len());
-            parts.push(own.iter().filter_map(|(_, digit)| *digit).collect());
-            rest = behind;
-        }
+        let mut rest = split.iter().map(|(_, digit)| *digit);
+        let lengths = word.syllables.iter().map(|syllable| syllable.phones.len());
+        let own = |len: usize| rest.by_ref().take(len).flatten().collect();
+        let parts: Vec<Vec<u8>> = lengths.map(own).collect();
         let pairs = |pair: &[u8]| parts.iter().any(|part| part.windows(2).any(|two| two == pair));
-        let any_with = |is_met: &dyn Fn(&[u8]) -> bool| {
-            split.iter().any(|(bare, digit)| digit.is_some() && is_met(bare))
-        };
-        let is_consonant = |bare: &[u8]| !phoneset::is_vowel(ascii(bare)) && bare != b"pau";
+        let with_digit = split.iter().filter(|(_, digit)| digit.is_some());
+        let with_digit: Vec<&[u8]> = with_digit.map(|(bare, _)| *bare).collect();
+        let is_consonant = |bare: &&[u8]| !phoneset::is_vowel(ascii(bare)) && *bare != b"pau";
         let behind_1 = |two: &[Vec<u8>]| two[0].ends_with(b"1") && two[1].is_empty();
     } [
         "syllable without a digit" => parts.iter().any(Vec::is_empty),
         "0 behind 1 in one syllable" => pairs(b"10"),
         "1 behind 0 in one syllable" => pairs(b"01"),
         "1, then a syllable without a digit" => parts.windows(2).any(behind_1),
-        "digit on a consonant" => any_with(&is_consonant),
-        "digit on pau" => any_with(&|bare| bare == b"pau"),
-        "two digits, one comes off" => any_with(&|bare| self::split(bare).1.is_some()),
+        "digit on a consonant" => with_digit.iter().any(is_consonant),
+        "digit on pau" => with_digit.contains(&&b"pau"[..]),
+        "two digits, one comes off" => with_digit.iter().any(|bare| self::split(bare).1.is_some()),
         "digit 2 stays" => split.iter().any(|(bare, _)| bare.ends_with(b"2")),
     ]
 
     /// What an accepted word met on its sheet.
-    added(input: &Input, word: &Word, before: &[Placed]) {
+    added(input: &Input, word: &Word, before: &[sheets::Placed]) {
         let used = sheets::used(before) + word.items();
         let silent = before.iter().all(|placed| placed.word.syllables.is_empty());
         let has_phones = !word.syllables.is_empty();

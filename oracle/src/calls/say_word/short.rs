@@ -1,8 +1,8 @@
 //! The short inputs of say_word.
 
-use super::Input;
+use super::{without_word, Input};
+use crate::calls::lookup::short::good;
 use crate::lexicon_edges::row;
-use crate::lexicons::Row;
 use crate::phones::REHEARSED;
 use crate::prelude::*;
 use crate::sheet_edges::in_order;
@@ -12,20 +12,10 @@ pub fn inputs() -> Vec<Input> {
     [sheets(), short_lists(), exact_lengths(), addenda(), other_sections(), edges()].concat()
 }
 
-fn input(
-    scene: &Rc<Scene>,
-    trees: &Rc<Trees>,
-    sheet: &[u8],
-    word: impl AsRef<[u8]>,
-    tag: impl AsRef<[u8]>,
-) -> Input {
+/// A word on a sheet, said with the sections of another.
+fn input(other: &Input, sheet: &[u8], word: impl AsRef<[u8]>, tag: impl AsRef<[u8]>) -> Input {
     let wanted = Wanted::new(word.as_ref(), tag.as_ref());
-    Input::new(sheet.to_vec(), scene.clone(), trees.clone(), wanted)
-}
-
-/// The good lexicon beside a store.
-fn good(store: Vec<u8>) -> Rc<Scene> {
-    Scene::of(Lexicon::new(lexicon_edges::good()), store)
+    Input { sheet: sheet.to_vec(), wanted, ..other.clone() }
 }
 
 /// A new sheet of so many bytes.
@@ -35,164 +25,133 @@ fn new_sheet(len: usize) -> Vec<u8> {
 
 /// Words with and without phones on every small sheet, and on sheets with one byte altered.
 fn sheets() -> Vec<Input> {
-    let scene = good(store_edges::good());
-    let trees = Rc::new(one_leaf(b"ey1-t"));
+    let sections = without_word(good(store_edges::good()), one_leaf(b"ey1-t"));
     let sound = each! {
         for sheet in [sheet_edges::limits(), sheet_edges::small()].concat();
         [(",", ""), ("a", "v"), ("Lead", "v"), ("xx", ""), ("ab", "")]
-            .map(|(word, tag)| input(&scene, &trees, &sheet, word, tag))
+            .map(|(word, tag)| input(&sections, &sheet, word, tag))
     };
-    let altered = sheet_edges::altered_bytes().into_iter();
-    let altered = each! {
-        for (i, sheet) in altered.chain(sheet_edges::flipped()).enumerate();
-        [input(&scene, &trees, &sheet, [",", "b"][i % 2], "")]
-    };
-    [sound, altered].concat()
+    let altered = [sheet_edges::altered_bytes(), sheet_edges::flipped()].concat();
+    let altered = altered.iter().zip([",", "b"].iter().cycle());
+    altered.map(|(sheet, word)| input(&sections, sheet, word, "")).chain(sound).collect()
 }
 
 /// Every list of up to three phones that the rules tell apart, each as a compiled entry, and 01's rehearsed ones.
 fn short_lists() -> Vec<Input> {
-    let names = [
-        "ae1", "ae0", "ae", "t", "t0", "t1", "s", "pau", "pau1", "ng", "", "0", "ax11", "ae2", "h",
-    ];
+    let names: Vec<&str> = "ae1,ae0,ae,t,t0,t1,s,pau,pau1,ng,,0,ax11,ae2,h".split(',').collect();
     let numbers: Vec<u8> = (0..names.len() as u8).collect();
-    let rows: Vec<Row> = words::every(&numbers, 3)
-        .into_iter()
-        .enumerate()
-        .map(|(i, numbers)| row(&format!("w{i:05}"), b'n', &numbers))
-        .collect();
-    let lexicon = Rc::new(Lexicon::of(&names, &rows));
-    let rehearsed = REHEARSED.split(',').enumerate();
-    let adds: Vec<Add> =
-        rehearsed.map(|(i, phones)| store_edges::add(&format!("m{i}"), "", phones)).collect();
-    let empty = Scene::new(&lexicon, stores::new(adds.len() + 1, 0));
-    let scene = empty.with_store(empty.grown(&adds));
-    let trees = Rc::new(one_leaf(b"x"));
+    let lists = words::every(&numbers, 3).into_iter().enumerate();
+    let rows: Vec<_> = lists.map(|(i, list)| row(format!("w{i:05}"), b'n', &list)).collect();
+    let add = |(i, phones): (usize, &str)| store_edges::add(&format!("m{i}"), "", phones);
+    let adds: Vec<Add> = REHEARSED.split(',').enumerate().map(add).collect();
+    let empty = Scene::of(Lexicon::of(&names, &rows), stores::new(adds.len() + 1, 0));
+    let sections = without_word(empty.with_store(empty.grown(&adds)), one_leaf(b"x"));
     let before = sheet_edges::word("z", &["1 z iy"]);
     let sheets = [new_sheet(9 * ITEM), sheet_edges::sheet(&in_order(&[before]), 20 * ITEM, 0)];
-    let compiled = each! {
-        for (i, row) in rows.iter().enumerate();
-        [input(&scene, &trees, &sheets[i % 2], &row.word, "v")]
-    };
+    let compiled = rows.iter().zip(sheets.iter().cycle());
+    let compiled = compiled.map(|(row, sheet)| input(&sections, sheet, &row.word, "v"));
     let rehearsed = each! {
         for add in &adds;
-        for sheet in &sheets;
-        [input(&scene, &trees, sheet, &add.wanted.word, "nil")]
+        sheets.iter().map(|sheet| input(&sections, sheet, &add.wanted.word, "nil"))
     };
-    [compiled, rehearsed].concat()
+    compiled.chain(rehearsed).collect()
 }
 
 /// Sheets about as long as a word needs them, behind other words and without.
 fn exact_lengths() -> Vec<Input> {
-    let rows = [
-        row("a", b'n', &[0]),
-        row("b", b'n', &[0, 1, 0, 1, 0]),
-        row("c", b'n', &[]),
-        row("d", b'n', &[0; 96]),
-        row("e", b'n', &[0; 97]),
-        row("f", b'n', &[1; 255]),
-    ];
-    let scene = Scene::of(Lexicon::of(&["ae1", "t"], &rows), stores::new(1, 0));
-    let trees = Rc::new(one_leaf(b"ey1-t"));
     // words with the items that they need
-    let words = [
-        ("a", 3),
-        ("b", 9),
-        ("c", 1),
-        ("d", 193),
-        ("e", 195),
-        ("f", 257),
-        (",", 1),
-        ("xyz", 10),
-        ("", 1),
-    ];
+    let compiled = [("a", 3), ("b", 9), ("c", 1), ("d", 193), ("e", 195), ("f", 257)];
+    let words = [&compiled[..], &[(",", 1), ("xyz", 10), ("", 1)]].concat();
+    let lists: [&[u8]; 6] = [&[0], &[0, 1, 0, 1, 0], &[], &[0; 96], &[0; 97], &[1; 255]];
+    let rows = compiled.iter().zip(lists).map(|((word, _), list)| row(word, b'n', list));
+    let scene = Scene::of(Lexicon::of(&["ae1", "t"], &rows.collect::<Vec<_>>()), stores::new(1, 0));
+    let sections = without_word(scene, one_leaf(b"ey1-t"));
     let filled = |items: usize| in_order(&vec![sheet_edges::word("w", &[]); items]);
     let about = each! {
-        for (word, need) in words;
+        for &(word, need) in &words;
         for used in [0, 1, 7];
         for unused in (0..=need + 1).filter(|n| n + 3 > need || *n < 2);
         for more in [0, 1, ITEM - 1];
         let sheet = sheet_edges::sheet(&filled(used), ITEM * unused + more, 0x2e);
-        [input(&scene, &trees, &sheet, word, "")]
+        [input(&sections, &sheet, word, "")]
     };
     // the last items of the largest sheet
     let last = each! {
-        for (word, need) in words;
+        for &(word, need) in &words;
         for unused in [0, need - 1, need, need + 1];
         let sheet = sheet_edges::sheet(&filled(1_023 - unused), ITEM * unused, 0);
-        [&sheet[..], &sheet[..sheet.len() - 1]].map(|sheet| input(&scene, &trees, sheet, word, "n"))
+        [&sheet[..], &sheet[..sheet.len() - 1]].map(|sheet| input(&sections, sheet, word, "n"))
     };
     // 94 phones by letters
     let long = [(47, 142), (47, 143), (46, 139)]
-        .map(|(len, unused)| input(&scene, &trees, &new_sheet(ITEM * unused), vec![b'a'; len], ""));
+        .map(|(len, unused)| input(&sections, &new_sheet(ITEM * unused), vec![b'a'; len], ""));
     [about, last, long.into()].concat()
 }
 
 /// Each of the addenda with some tags.
 fn addenda() -> Vec<Input> {
-    let scene = good(stores::new(2, 0xee));
-    let trees = Rc::new(one_leaf(b"zz"));
+    let sections = without_word(good(stores::new(2, 0xee)), one_leaf(b"zz"));
     each! {
         for word in lexicon_shapes::addenda();
         for tag in ["", "n", "p", "v", "s", "0", "nil", "x"];
         [word.to_string(), word.to_uppercase()]
-            .map(|word| input(&scene, &trees, &new_sheet(16 * ITEM), word, tag))
+            .map(|word| input(&sections, &new_sheet(16 * ITEM), word, tag))
     }
 }
 
 /// Stores with one byte altered, and every section at 01's limits; lower refusals before higher ones.
 fn other_sections() -> Vec<Input> {
-    let leaf = Rc::new(one_leaf(b"x"));
-    let scene = good(store_edges::good());
+    let sections = without_word(good(store_edges::good()), one_leaf(b"x"));
+    let scene = &sections.scene;
+    let beside = |scene: Rc<Scene>| Input { scene, ..sections.clone() };
     let altered = each! {
         for (i, store) in store_edges::altered_bytes().into_iter().enumerate();
-        let word = ["lead", "zz"][i % 2];
-        [input(&scene.with_store(store), &leaf, &new_sheet(8 * ITEM), word, "")]
+        let sections = beside(scene.with_store(store));
+        [input(&sections, &new_sheet(8 * ITEM), ["lead", "zz"][i % 2], "")]
     };
     let stores = each! {
         for store in store_edges::limits();
-        let scene = scene.with_store(store);
-        ["lead", "a", "w0", "in"].map(|word| input(&scene, &leaf, &new_sheet(60 * ITEM), word, ""))
+        let sections = beside(scene.with_store(store));
+        ["lead", "a", "w0", "in"].map(|word| input(&sections, &new_sheet(60 * ITEM), word, ""))
     };
     let small = each! {
         for lexicon in lexicon_edges::small(3);
-        let scene = scene.with_lexicon(&lexicon);
+        let sections = beside(scene.with_lexicon(&lexicon));
         [("a", ""), ("b", "n"), ("b", "q")]
-            .map(|(word, tag)| input(&scene, &leaf, &new_sheet(5 * ITEM), word, tag))
+            .map(|(word, tag)| input(&sections, &new_sheet(5 * ITEM), word, tag))
     };
-    let on_sheets = |scene: &Rc<Scene>, trees: &Rc<Trees>, items: usize, word: &str, tag: &str| {
-        [new_sheet(items * ITEM), new_sheet(ITEM), vec![1; 128]]
-            .map(|sheet| input(scene, trees, &sheet, word, tag))
+    let lexicons = each! {
+        for lexicon in lexicon_edges::limits();
+        let words = ["a", "b", "ab", "", "in", "zz", "lead"];
+        on_some_sheets(&beside(scene.with_lexicon(&lexicon)), 300, &words, "n")
     };
-    let long = |scene: &Rc<Scene>, trees: &Rc<Trees>, tag: &str| {
-        input(scene, trees, &new_sheet(999), [b'a'; 48], tag)
+    let trees = each! {
+        for trees in tree_edges::limits();
+        let words = ["", "a#", "7", "a", "xy", "yx", "lead", ","];
+        on_some_sheets(&Input { trees, ..sections.clone() }, 12, &words, "")
     };
-    let mut inputs = [altered, stores, small].concat();
-    for lexicon in lexicon_edges::limits() {
-        let scene = scene.with_lexicon(&lexicon);
-        for word in ["a", "b", "ab", "", "in", "zz", "lead"] {
-            inputs.extend(on_sheets(&scene, &leaf, 300, word, "n"));
-        }
-        inputs.push(long(&scene, &leaf, "n"));
-    }
-    for trees in tree_edges::limits() {
-        for word in ["", "a#", "7", "a", "xy", "yx", "lead", ","] {
-            inputs.extend(on_sheets(&scene, &trees, 12, word, ""));
-        }
-        inputs.push(long(&scene, &trees, ""));
-    }
+    [altered, stores, small, lexicons, trees].concat()
+}
+
+/// Words on a sheet of so many items, on one that is full and on one that is not sound; then a word that is refused.
+fn on_some_sheets(sections: &Input, items: usize, words: &[&str], tag: &str) -> Vec<Input> {
+    let sheets = [new_sheet(items * ITEM), new_sheet(ITEM), vec![1; 128]];
+    let mut inputs = each! {
+        for word in words;
+        sheets.iter().map(|sheet| input(sections, sheet, word, tag))
+    };
+    inputs.push(input(sections, &new_sheet(999), [b'a'; 48], tag));
     inputs
 }
 
 /// Words and tags at 01's limits, on stores and sheets that are sound and that are not.
 fn edges() -> Vec<Input> {
-    let leaf = Rc::new(one_leaf(b"x1-t"));
-    let new = [200, 1].map(|items| new_sheet(items * ITEM));
-    let sheets = [&new[..], &[sheet_edges::good(), vec![7; 64], vec![]]].concat();
+    let sheets = [new_sheet(200 * ITEM), new_sheet(ITEM), sheet_edges::good(), vec![7; 64], vec![]];
     each! {
-        for scene in [good(store_edges::good()), good(vec![1; 512])];
+        for store in [store_edges::good(), vec![1; 512]];
+        let sections = without_word(good(store), one_leaf(b"x1-t"));
         for sheet in &sheets;
         for Wanted { word, tag } in words::limits(&["Lead", "b", "a", "in", "qq"]);
-        [input(&scene, &leaf, sheet, word, tag)]
+        [input(&sections, sheet, word, tag)]
     }
 }

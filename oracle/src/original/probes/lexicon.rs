@@ -22,8 +22,5 @@ pub fn added(lexicon: &Lexicon) -> &[Added] {
 
 /// The same lexicon with these runtime entries.
 pub fn with_added(lexicon: &Lexicon, added: Vec<Added>) -> Lexicon {
-    Lexicon {
-        added,
-        ..lexicon.clone()
-    }
+    Lexicon { added, ..lexicon.clone() }
 }

@@ -1,0 +1,94 @@
+//! What a list of calls works on, and its log: what it gives back, as bytes that are compared.
+
+use super::run::Side;
+use super::Act;
+use crate::prelude::*;
+use crate::sheets::Reading;
+use crate::spoken::{Syllable, Word};
+
+/// What a list works on, as the call before has left it.
+#[derive(Default)]
+pub struct State {
+    pub store: Vec<u8>,
+    pub sheet: Vec<u8>,
+    pub log: Vec<u8>,
+    /// How many calls of the list were made.
+    calls: usize,
+}
+
+impl State {
+    /// Makes a call, which may be an act of the list. Takes what it writes, and logs its answer and what it altered.
+    pub fn call<C: Call>(
+        &mut self,
+        side: &mut impl Side,
+        act: Option<&Act>,
+        input: &C::Input,
+    ) -> Result<(), String> {
+        let outcome = side.outcome::<C>(act, input)?;
+        self.calls += usize::from(act.is_some());
+        self.put("call", format!("{}: {}", self.calls, outcome.answer).as_bytes());
+        let parts = C::default().lent(input);
+        let written = parts.iter().filter(|part| part.is_written());
+        for (part, bytes) in written.zip(outcome.written) {
+            if bytes != part.bytes[..] {
+                self.put(part.name, &bytes);
+            }
+            match part.name {
+                "the store" => self.store = bytes,
+                "the sheet" => self.sheet = bytes,
+                "the spare" => {}
+                other => unreachable!("no call of a list writes {other}"),
+            }
+        }
+        Ok(())
+    }
+
+    /// The end of a sheet's words. Logs what reading it gives, if it can be read, and its phone string.
+    pub fn close(&mut self, side: &mut impl Side) -> Result<(), String> {
+        let (answer, phones) = side.close(self)?;
+        let reading = sheets::reading(&self.sheet);
+        let reading = reading.map_or("cannot be read".into(), |reading| told(&reading));
+        self.put("reads", reading.as_bytes());
+        self.put("phone_string", format!("{answer}, {}", notation::bytes(&phones)).as_bytes());
+        Ok(())
+    }
+
+    /// Logs something, behind its name and its length.
+    fn put(&mut self, name: &str, bytes: &[u8]) {
+        self.log.extend(format!("{name} {}\n", bytes.len()).bytes());
+        self.log.extend_from_slice(bytes);
+    }
+}
+
+/// A reading as text: each word with its syllables, then the phones forwards and backwards.
+fn told(reading: &Reading) -> String {
+    let list = |phones: &[Vec<u8>]| {
+        let phones: Vec<String> = phones.iter().map(|phone| notation::text(phone)).collect();
+        phones.join(" ")
+    };
+    let syllable = |one: &Syllable| format!(" {}({})", one.stress, list(&one.phones));
+    let word = |word: &Word| {
+        notation::text(&word.text) + &word.syllables.iter().map(syllable).collect::<String>()
+    };
+    let words: Vec<String> = reading.words.iter().map(word).collect();
+    let (forwards, backwards) = (list(&reading.forwards), list(&reading.backwards));
+    format!("{}; {forwards}; {backwards}", words.join(", "))
+}
+
+/// The log as lines.
+pub fn shown(log: &[u8]) -> String {
+    let (mut text, mut rest) = (String::new(), log);
+    while let Some(end) = rest.iter().position(|b| *b == b'\n') {
+        let head = String::from_utf8_lossy(&rest[..end]);
+        let (name, len) = head.rsplit_once(' ').expect("a length stands behind each name");
+        let (part, behind) = rest[end + 1..].split_at(len.parse().expect("it is a number"));
+        let shown = match name {
+            "the store" | "the spare" => notation::store(part),
+            "the sheet" => notation::sheet(part),
+            _ => String::from_utf8_lossy(part).into(),
+        };
+        text += &format!("\n      {name} {shown}");
+        rest = behind;
+    }
+    text
+}
