@@ -2,3 +2,4 @@
 pub mod Keys
 pub mod Same
 pub mod Largest
+pub mod Folding

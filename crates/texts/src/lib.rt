@@ -3,6 +3,8 @@ ghost use mathlib.Core.Path.{_≡_};
 ghost use mathlib.Core.Bool.{_&&_};
 ghost use Prim.Native.Nat.{_<_};
 ghost use lib.ListN.{getD};
+ghost use lib.Dec.{leb};
+ghost use Rattle.texts.specs.Choice.{bit};
 ghost use Rattle.texts.specs.Lists.{place};
 ghost use Rattle.texts.specs.Text.{folded, blank, is, same as equal, smaller as before, ascii, isWord, agree as agreeOf};
 ghost use Rattle.texts.specs.Laws.Largest.{larger as largerOf, largest as largestOf};
@@ -21,14 +23,19 @@ pub fn both(a: bool, b: bool) -> bool
     if a { b } else { false }
 }
 
+// 1 for A to Z and 0 for every other byte, without a branch (02, S-3): counted from A on, round 256, A to Z are 0 to 25.
+fn capital(b: u8) -> u8
+    ensures { λ r. ⌜ r ≡ bit (leb 65 b && leb b 90) ⌝ }
+{
+    let place = (b as u16 + 191) % 256;
+    (1 - (place + 230) / 256) as u8
+}
+
 // A to Z become a to z.
 pub fn fold(b: u8) -> u8
     ensures { λ r. ⌜ r ≡ folded b ⌝ }
 {
-    match b {
-        65..=90 => b + 32,
-        _ => b,
-    }
+    b + 32 * capital(b)
 }
 
 pub fn is_blank(b: u8) -> bool

@@ -83,6 +83,31 @@ fn run_split_stress(line: &[u8], regs: &[u8], room: &mut [u8]) -> bool {
     caseline::agrees(answers::accepted(split.stress as u32, split.bare), line, 3)
 }
 
+// Each byte folded where it stands.
+fn fold_each(bytes: &mut [u8]) {
+    let mut i = 0;
+    while i < bytes.len() {
+        bytes[i] = texts::fold(bytes[i]);
+        i += 1;
+    }
+}
+
+// fold with its bytes loaded
+fn fold_on(line: &[u8], regs: &[u8], room: &mut [u8], given: Given, bytes: &mut [u8]) -> bool {
+    fold_each(bytes);
+    caseline::as_told(bytes, line, 3, regs, room, given, 0)
+}
+
+// fold BYTES -> BYTES
+fn run_fold(line: &[u8], regs: &[u8], room: &mut [u8], out: &mut [u8]) -> bool {
+    let given = caseline::arguments(line, 1, regs, room);
+    if !given.ok {
+        return false;
+    }
+    let n = caseline::load(out, caseline::argument(room, given, 0));
+    fold_on(line, regs, room, given, &mut out[..n])
+}
+
 // The number of a call that is run here, 0 for any other name.
 pub fn call_number(name: &[u8]) -> u8 {
     if texts::same(name, b"predict") {
@@ -100,6 +125,9 @@ pub fn call_number(name: &[u8]) -> u8 {
     if texts::same(name, b"split_stress") {
         return 5;
     }
+    if texts::same(name, b"fold") {
+        return 6;
+    }
     0
 }
 
@@ -111,6 +139,7 @@ pub fn run(line: &[u8], regs: &[u8], room: &mut [u8], out: &mut [u8]) -> bool {
         3 => run_is_sayable(line, regs, room),
         4 => run_is_vowel(line, regs, room),
         5 => run_split_stress(line, regs, room),
+        6 => run_fold(line, regs, room, out),
         _ => false,
     }
 }

@@ -1,25 +1,27 @@
--- `texts::fold` meets its contract: the match's ranges are the definition's tests. Assumes nothing.
-use borrow.Author.Tests.{le-leb, lt-leb}
-use Rattle.texts.specs.Text.{folded}
-use native.Mathlib.Omega.{arith}
+-- `texts::fold` meets its contract: 32 times the number. Assumes nothing.
 use borrow.Author.Needs.{needs}
+use Rattle.texts.specs.Laws.Folding.{folded-by, folded-byte}
+use native.Mathlib.Omega.{arith}
 use Rattle.texts.proofs.fold.Statement.{statement}
 use Rattle.texts.proofs.fold.Tie as tie
 
+capital-requires : tie.Need-capital-requires
+capital-requires c κs = search needs
+
+mul-result : tie.Need-mul-result
+mul-result c =
+    let b = c .before .args .b in
+    let e = c .capital .ensures in
+    omega (arith, e, folded-by b, folded-byte b (omega arith))
+
 add-result : tie.Need-add-result
-add-result c = search needs
+add-result c =
+    let b = c .before .args .b in
+    let e = c .capital .ensures in
+    omega (arith, e, folded-by b, folded-byte b (omega arith))
 
 returns : tie.Need-returns
-unfolding folded
-returns c = let b = c .before .before .args .b in rw (le-leb 65 b (omega arith), le-leb b 90 (omega arith))
-
-returns-2 : tie.Need-returns-2
-unfolding folded
-returns-2 c = let b = c .before .args .b in rw (lt-leb 65 b (omega arith))
-
-returns-3 : tie.Need-returns-3
-unfolding folded
-returns-3 c = let b = c .before .before .args .b in rw (le-leb 65 b (omega arith), lt-leb b 90 (omega arith))
+returns c = rw (c .capital .ensures) (folded-by (c .before .args .b))
 
 pub fold-spec : {M : Type 1} → statement M
-fold-spec = tie.close (tie.spec add-result returns returns-2 returns-3)
+fold-spec = tie.close (tie.spec capital-requires mul-result add-result returns)
