@@ -173,6 +173,39 @@ impl Side for CheckLexicon {
     }
 }
 
+pub struct ReadSettings {
+    pub settings: Vec<u8>,
+}
+
+impl Side for ReadSettings {
+    fn calls(&self) -> usize {
+        AGAIN
+    }
+
+    fn call(&mut self, _: usize) {
+        let shown = ours::read_settings(black_box(&self.settings), 2, 1.5);
+        debug_assert!(shown.refusal == 0);
+        black_box(shown);
+    }
+}
+
+/// Writes a pitch, another each time.
+pub struct WriteSetting {
+    pub settings: Vec<u8>,
+}
+
+impl Side for WriteSetting {
+    fn calls(&self) -> usize {
+        AGAIN
+    }
+
+    fn call(&mut self, i: usize) {
+        let answer = ours::write_whole(&mut self.settings, 2, b"pitch", 100 + i as i32);
+        debug_assert!(answer.refusal == 0);
+        black_box(answer);
+    }
+}
+
 /// Calls that are refused as soon as their sections, their store and their sheet are found in order: all that they do
 /// is decide that.
 pub struct Decide {

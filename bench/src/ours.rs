@@ -9,6 +9,17 @@ pub struct Answer {
     pub third: u64,
 }
 
+/// What a read of settings gives back.
+#[repr(C)]
+pub struct Settings {
+    pub refusal: u32,
+    pub count: u32,
+    pub pitch: i32,
+    pub stretch: f32,
+    pub level: i32,
+    pub rack: f32,
+}
+
 /// A slice that a call is lent, to read or to write.
 trait Lent {
     fn lent(self) -> (*mut u8, usize);
@@ -58,6 +69,34 @@ library! {
         store: &[u8], sheet: &mut [u8], word: &[u8], tag: &[u8]
     );
     phone_string = pronouncer_phone_string(sheet: &[u8], out: &mut [u8]);
+}
+
+extern "C" {
+    fn pronouncer_read_settings(_: *mut u8, _: usize, version: u32, show: f32) -> Settings;
+    fn pronouncer_write_setting(
+        _: *mut u8,
+        _: usize,
+        version: u32,
+        _: *mut u8,
+        _: usize,
+        kind: u32,
+        value: u32,
+    ) -> Answer;
+}
+
+#[inline]
+pub fn read_settings(settings: &[u8], version: u32, show: f32) -> Settings {
+    let settings = settings.lent();
+    // SAFETY: the pointer and the length are a whole slice, which the library only reads.
+    unsafe { pronouncer_read_settings(settings.0, settings.1, version, show) }
+}
+
+/// Writes a setting that is a whole number.
+#[inline]
+pub fn write_whole(settings: &mut [u8], version: u32, name: &[u8], value: i32) -> Answer {
+    let (settings, name, value) = (settings.lent(), name.lent(), value as u32);
+    // SAFETY: each pointer and length is a whole slice; the library writes only the settings.
+    unsafe { pronouncer_write_setting(settings.0, settings.1, version, name.0, name.1, 1, value) }
 }
 
 /// Lookup in the three sections of a lexicon.

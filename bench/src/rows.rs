@@ -65,6 +65,11 @@ pub fn all() -> Vec<Plan> {
         plan(name, "strings", Box::new(move |t| phone_string(t, sheet)));
     }
     plan("check_lexicon".into(), "entries", Box::new(check_lexicon));
+    for (records, name) in [(3, "three records"), (2047, "2,047 records")] {
+        let name = format!("read_settings, {name}");
+        plan(name, "calls", Box::new(move |_| read_settings(records)));
+    }
+    plan("write_setting, three records".into(), "calls", Box::new(|_| write_setting(3)));
     for (fill, full) in [FILLS[0], FILLS[2]] {
         let name = format!("soundness alone, {full} store");
         plan(name, "calls", Box::new(move |t| decide(t, fill, None)));
@@ -205,6 +210,15 @@ fn check_lexicon(tables: &'static Tables) -> Sides {
     let mut sides = Sides::ours(library::CheckLexicon { tables });
     sides.units = tables.entries();
     sides
+}
+
+/// The original has no such calls.
+fn read_settings(records: usize) -> Sides {
+    Sides::ours(library::ReadSettings { settings: stage::settings(records) })
+}
+
+fn write_setting(records: usize) -> Sides {
+    Sides::ours(library::WriteSetting { settings: stage::settings(records) })
 }
 
 fn decide(tables: &'static Tables, store: Fill, sheet: Option<Fill>) -> Sides {

@@ -1,4 +1,4 @@
-//! Stores and sheets that are empty, half-full and full, written by the library itself.
+//! Stores and sheets that are empty, half-full and full, written by the library itself; and settings.
 
 use crate::ours;
 use crate::tables::{Tables, Word};
@@ -7,6 +7,8 @@ use crate::tables::{Tables, Word};
 const LARGEST: usize = 65_536;
 const SLOT: usize = 512;
 const ITEM: usize = 64;
+/// Bytes of a record of settings.
+const RECORD: usize = 32;
 /// Bytes of a phone in a list: its length, its text, zeros.
 const CELL: usize = 16;
 /// Room for the longest phone list.
@@ -182,4 +184,29 @@ pub fn patched(sheet: &[u8]) -> [usize; 3] {
 
 fn number(bytes: &[u8], at: usize) -> usize {
     usize::from(u16::from_le_bytes([bytes[at], bytes[at + 1]]))
+}
+
+/// Settings of version 2 with so many records: names of 15 bytes, and last pitch, stretch and level.
+pub fn settings(records: usize) -> Vec<u8> {
+    let known = [
+        ("pitch".to_string(), 1, 100),
+        ("stretch".to_string(), 2, 1.25_f32.to_bits()),
+        ("level".to_string(), 1, 75),
+    ];
+    let others = (0..records - known.len()).map(|i| (format!("setting-{i:06}x"), 1, i as u32));
+    let mut settings = vec![2, 0, 1, 0];
+    settings.resize(RECORD, 0);
+    for (i, (name, kind, value)) in others.chain(known).enumerate() {
+        let next = if i + 1 < records { i + 2 } else { 0 };
+        let mut record = [0; RECORD];
+        record[..2].copy_from_slice(&(next as u16).to_le_bytes());
+        record[2] = name.len() as u8;
+        record[3..3 + name.len()].copy_from_slice(name.as_bytes());
+        record[18] = kind;
+        record[19..23].copy_from_slice(&value.to_le_bytes());
+        settings.extend(record);
+    }
+    let shown = ours::read_settings(&settings, 2, 1.0);
+    assert!((shown.refusal, shown.pitch, shown.level) == (0, 100, 75), "they are refused");
+    settings
 }

@@ -1,4 +1,5 @@
-/* Adds a name, says it and a letter, and prints the phones. At the top of the repository:
+/* Adds a name, says it and a letter, and prints the phones; then sets a rack's pitch, and prints its
+ * settings. At the top of the repository:
  *   cc -std=c99 -Ibindings/c bindings/c/example.c target/staticlib/libpronouncer.a -o target/example
  */
 #include "pronouncer.h"
@@ -15,6 +16,11 @@ static const char lex_data[] = "";
 static const char lts_phones[] = "\1\0\0\0\2ey";
 static const uint8_t lts_index[52] = {0};
 static const char lts_model[] = "\377\0\0\0\0\0";
+
+/* Settings of version 2 with one record, a pitch of 100. */
+static uint8_t settings[2 * PRONOUNCER_RECORD_BYTES] = {
+    [0] = 2, [2] = 1, [34] = 5, [35] = 'p', 'i', 't', 'c', 'h', [50] = PRONOUNCER_WHOLE, [51] = 100,
+};
 
 enum { STORE_BYTES = 16 * PRONOUNCER_SLOT_BYTES, SHEET_BYTES = 256 * PRONOUNCER_ITEM_BYTES };
 
@@ -41,6 +47,7 @@ int main(void)
     /* What stands in these bytes does not matter: new_store and new_sheet begin them. */
     uint8_t store[STORE_BYTES], spare[STORE_BYTES], sheet[SHEET_BYTES], out[256];
     struct pronouncer_answer answer;
+    struct pronouncer_settings shown;
 
     if (refused("new_store", pronouncer_new_store(store, sizeof store)) ||
         refused("new_sheet", pronouncer_new_sheet(sheet, sizeof sheet)))
@@ -58,5 +65,16 @@ int main(void)
     if (refused("phone_string", answer))
         return 1;
     printf("%.*s\n", (int)answer.value, (const char *)out);
+
+    answer = pronouncer_write_setting(settings, sizeof settings, 2, BYTES("pitch"), PRONOUNCER_WHOLE, 120);
+    if (refused("write_setting", answer))
+        return 1;
+    shown = pronouncer_read_settings(settings, sizeof settings, 2, 1.5f);
+    if (shown.refusal != PRONOUNCER_ACCEPTED) {
+        fprintf(stderr, "read_settings: refusal %u\n", (unsigned)shown.refusal);
+        return 1;
+    }
+    printf("pitch %d, stretch %g, level %d, rack %g\n",
+           (int)shown.pitch, shown.stretch, (int)shown.level, shown.rack);
     return 0;
 }

@@ -1,16 +1,18 @@
-/* The pronouncer: which phones a word has, cut into syllables, on a sheet.
+/* The pronouncer: which phones a word has, cut into syllables, on a sheet; and the voice settings of
+ * a rack.
  *
- * Link with libpronouncer.a (x86-64). docs/FORMATS.md tells the layout of sections, store, sheet
- * and phone lists; this file tells what each call takes, answers, refuses and writes.
+ * Link with libpronouncer.a (x86-64). docs/FORMATS.md tells the layout of sections, store, sheet,
+ * settings and phone lists; this file tells what each call takes, answers, refuses and writes.
  *
- * Lent bytes. Each argument is a pointer and a length in bytes. The pointer is not NULL, also where
- * the length is 0. The bytes may be anything: every call takes any bytes and any length. Bytes that
- * a call may write (those that are not const) must not overlap its other arguments. Nothing is
- * allocated, and nothing is kept between calls but the lent bytes; calls in several threads are
- * safe if none writes what another uses.
+ * Lent bytes. Each argument that is not a number is a pointer and a length in bytes. The pointer is
+ * not NULL, also where the length is 0. The bytes may be anything: every call takes any bytes and any
+ * length. Bytes that a call may write (those that are not const) must not overlap its other
+ * arguments. Nothing is allocated, and nothing is kept between calls but the lent bytes; calls in
+ * several threads are safe if none writes what another uses.
  *
  * Refusals. A refused call leaves every lent byte as it was, but for the spare of
- * pronouncer_add_entries. Where several numbers apply, the lowest is told.
+ * pronouncer_add_entries. Where several numbers apply, the first in rank order is told
+ * (docs/FORMATS.md has the order).
  *
  * Words, tags and texts are bytes, not strings that end at 0. A phone list is cells of 16 bytes: a
  * length from 0 to 15, then the text. Handed in, it has as many phones as whole cells, and bytes
@@ -28,11 +30,14 @@ extern "C" {
 
 /* Sizes. A store has 512 to 65,536 bytes, a multiple of 512; its first slot keeps count, so 65,536
  * bytes hold 127 entries. A sheet has 64 to 65,536 bytes; its first item keeps count, and each
- * word, syllable and phone takes another, so 65,536 bytes hold 1,023 of them. */
+ * word, syllable and phone takes another, so 65,536 bytes hold 1,023 of them. Settings have 32 to
+ * 65,536 bytes; their first record has the version, so 65,536 bytes hold 2,047 of them. */
 #define PRONOUNCER_SLOT_BYTES 512
 #define PRONOUNCER_ITEM_BYTES 64
+#define PRONOUNCER_RECORD_BYTES 32     /* of a setting */
 #define PRONOUNCER_CELL_BYTES 16
-#define PRONOUNCER_LARGEST_BYTES 65536 /* of a store or a sheet */
+#define PRONOUNCER_LARGEST_BYTES 65536 /* of a store, a sheet or settings */
+#define PRONOUNCER_NAME_BYTES 15       /* of a setting's name, at most */
 #define PRONOUNCER_WORD_BYTES 47       /* of a word or a tag, at most */
 #define PRONOUNCER_PHONE_BYTES 15      /* of a phone, at most */
 #define PRONOUNCER_ENTRY_PHONES 24     /* of an entry to be added, at most */
@@ -44,9 +49,9 @@ enum pronouncer_refusal {
     PRONOUNCER_ACCEPTED = 0,
     /* A section breaks its form. Hand over each section singly, whole and in its place. */
     PRONOUNCER_SECTION = 1,
-    /* A store or sheet has a wrong length or is not sound, or the spare is not as long as the
-     * store. Lend the lengths above, begin with pronouncer_new_store or pronouncer_new_sheet, and
-     * let only calls write the bytes. */
+    /* A store or sheet has a wrong length or is not sound, settings have a wrong length, or the spare
+     * is not as long as the store. Lend the lengths above, begin with pronouncer_new_store or
+     * pronouncer_new_sheet, and let only calls write the bytes. */
     PRONOUNCER_UNSOUND = 2,
     /* A word or tag is over 47 bytes, or a text has a byte of 128 or more. Write it shorter, or in
      * ASCII. */
@@ -67,7 +72,19 @@ enum pronouncer_refusal {
     PRONOUNCER_FULL = 8,
     /* The sheet has too few unused items, or an output is too short. Begin a new sheet, or lend
      * more bytes. */
-    PRONOUNCER_SHORT = 9
+    PRONOUNCER_SHORT = 9,
+    /* The version of the settings or the reader's is neither 1 nor 2. Ask with 1 or 2; settings of
+     * another version are read by the library that has it, or written anew. */
+    PRONOUNCER_VERSION = 15,
+    /* In the settings an index leads outside, the chain goes in a circle, a name stands twice, or a
+     * name's length or a kind is out of range: write new settings. Or the setting to write is none
+     * that the reader's version knows, or has no record: no call adds one, so write settings that
+     * have it. */
+    PRONOUNCER_RECORDS = 16,
+    /* A known setting, the value to write or the show's stretch is of the wrong kind or out of range.
+     * Hand over a pitch of 50 to 400, a level of 0 to 100, a stretch of 0.25 to 4.0. If it is a
+     * value in the settings, no write mends them, not even one of that setting: write new ones. */
+    PRONOUNCER_RANGE = 17
 };
 
 /* Where pronouncer_lookup found a word. */
@@ -78,13 +95,29 @@ enum pronouncer_source {
     PRONOUNCER_COMPILED = 3 /* in the lexicon's sections */
 };
 
-/* What every call gives back. */
+/* The kind of a setting. */
+enum pronouncer_setting_kind {
+    PRONOUNCER_WHOLE = 1, /* an int32_t */
+    PRONOUNCER_REAL = 2   /* a float */
+};
+
+/* What every call gives back, but for pronouncer_read_settings. */
 struct pronouncer_answer {
     uint32_t refusal; /* an enum pronouncer_refusal; 0 if the call was accepted */
     uint32_t kind;    /* a source, or 1 for yes and 0 for no, where the call says so; else 0 */
     uint64_t value;   /* a count, where the call says so; of a refusal the faulty line; else 0 */
     uint64_t second;  /* 0 */
     uint64_t third;   /* 0 */
+};
+
+/* What pronouncer_read_settings gives back; refused, every other field is 0. */
+struct pronouncer_settings {
+    uint32_t refusal; /* an enum pronouncer_refusal; 0 if the call was accepted */
+    uint32_t count;   /* of settings shown: 2 to a reader of version 1, 3 to one of version 2 */
+    int32_t pitch;    /* 50 to 400 */
+    float stretch;    /* 0.25 to 4.0 */
+    int32_t level;    /* 0 to 100; 0 where it is not shown */
+    float rack;       /* the rack's stretch, 0.0625 to 16.0: stretch times the show's */
 };
 
 /* Whether a lexicon is whole.
@@ -292,7 +325,51 @@ struct pronouncer_answer pronouncer_phone_string(
     const uint8_t *sheet, size_t sheet_len,
     uint8_t *out, size_t out_len);
 
-/* Beyond the eleven calls: whether a phone is a vowel. An unknown phone is a consonant, and so is
+/* Reads a rack's settings.
+ *
+ * Pitch is a whole number from 50 to 400, stretch a float from 0.25 to 4.0, level a whole number from
+ * 0 to 100. A reader of version 1 knows pitch and stretch, one of version 2 level too; what the
+ * reader does not know may have any value. The settings' own version must be 1 or 2 as well, and
+ * changes nothing else. A setting without a record is 100, 1.0 or 80.
+ *
+ * settings: 32 to 65,536 bytes; what is left behind the last whole record is not read. version: the
+ * reader's, 1 or 2. show: the show's stretch, 0.25 to 4.0.
+ * Answer: what that version knows, and last the rack's stretch: the settings' stretch times the
+ * show's, rounded once.
+ * Refusals:
+ *    2  the length is another
+ *   15  the settings' version or the reader's is neither 1 nor 2
+ *   16  an index leads outside, the chain goes in a circle, a name stands twice, a name is over 15
+ *       bytes, or a kind is neither 1 nor 2, be the setting known or not
+ *   17  a known setting is of the wrong kind or out of range, or show is out of range, as a NaN is
+ * Writes nothing.
+ */
+struct pronouncer_settings pronouncer_read_settings(
+    const uint8_t *settings, size_t settings_len,
+    uint32_t version,
+    float show);
+
+/* Writes a setting that the reader's version knows and that has a record.
+ *
+ * settings: as for pronouncer_read_settings. version: the reader's, 1 or 2. name: "pitch", "stretch"
+ * or "level". kind: an enum pronouncer_setting_kind. value: the 32 bits of the int32_t, or those of
+ * the float (memcpy).
+ * Refusals:
+ *    2  the length is another
+ *   15  the settings' version or the reader's is neither 1 nor 2
+ *   16  as of pronouncer_read_settings; or the version does not know the name, or it has no record
+ *   17  a known setting, this one or another, is of the wrong kind or out of range before the write,
+ *       which therefore mends nothing; or kind or value is wrong for this one
+ * Writes the four value bytes of the setting's record, and no other byte.
+ */
+struct pronouncer_answer pronouncer_write_setting(
+    uint8_t *settings, size_t settings_len,
+    uint32_t version,
+    const uint8_t *name, size_t name_len,
+    uint32_t kind,
+    uint32_t value);
+
+/* Beyond the thirteen calls: whether a phone is a vowel. An unknown phone is a consonant, and so is
  * one that has its stress.
  *
  * phone: its text, without a length in front.
@@ -301,7 +378,7 @@ struct pronouncer_answer pronouncer_phone_string(
  */
 struct pronouncer_answer pronouncer_is_vowel(const uint8_t *phone, size_t phone_len);
 
-/* Beyond the eleven calls: the stress of a phone, its last byte if that is "0" or "1".
+/* Beyond the thirteen calls: the stress of a phone, its last byte if that is "0" or "1".
  *
  * phone: its text, without a length in front.
  * Answer: kind is the stress, 48 or 49, or 0 where there is none; value is the length of the bare

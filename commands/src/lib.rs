@@ -1,10 +1,12 @@
-//! What the programs share: the command line, what ends a program and with which status, and words for each refusal.
+//! What the programs share: the command line, what ends a program and with which status, words for each refusal, and
+//! numbers in bytes.
 //!
 //! A program's own code stands in its folder, `src/bin/NAME/`.
 
 #![forbid(unsafe_code)]
 #![warn(missing_docs)]
 
+pub mod numbers;
 pub mod options;
 pub mod program;
 pub mod refusals;

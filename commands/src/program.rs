@@ -10,7 +10,7 @@ use crate::options::{self, Argument, Known, WrongUse};
 /// How a program that understood its command line ended.
 #[derive(Debug, Clone, Copy, PartialEq, Eq)]
 pub enum Status {
-    /// All was said, or everything is fit: 0.
+    /// All was said or shown, or everything is fit: 0.
     Done,
     /// Something was refused, or is unfit: 1.
     Refused,
@@ -128,4 +128,9 @@ pub fn one_line(text: &str) -> String {
         }
     }
     line
+}
+
+/// A word, a phone or a name in a sentence.
+pub fn quoted(text: &[u8]) -> String {
+    format!("\"{}\"", String::from_utf8_lossy(text))
 }

@@ -34,6 +34,18 @@ pub fn words(refusal: Refusal) -> String {
             "Begin a new store with the entries that this show needs.",
         ),
         Refusal::Short => ("the sheet has no room for the word", "Begin a new sheet."),
+        Refusal::Version => (
+            "the version of the settings, or of their reader, is neither 1 nor 2",
+            "Name one of these, or write new settings (rack_settings --new).",
+        ),
+        Refusal::Records => (
+            "the chain of settings is damaged, or the setting to write is unknown or has no record",
+            "Name one that has a record, or write new settings (rack_settings --new).",
+        ),
+        Refusal::Range => (
+            "a setting, the value to write or the show's stretch is of the wrong kind or out of its range",
+            "Give one in its range; where a setting is not, write new ones (rack_settings --new).",
+        ),
         other => (other.cause(), other.cure()),
     };
     format!("{number}, {cause}. {cure}")

@@ -44,7 +44,7 @@ impl Told {
     }
 
     /// The same of an answer that the original has no part in.
-    pub fn by_01(self) -> Told {
+    pub fn by_papers(self) -> Told {
         Told { asked: false, ..self }
     }
 }
@@ -132,7 +132,7 @@ pub trait Call: Default {
         let mut met = Met::default();
         let told = match self.rule(input, &mut met) {
             Ok(told) => fitting::<Self>(told, &parts, &mut met),
-            Err(Stop::Refused(refusal, need)) => Told::refused(refusal, need).by_01(),
+            Err(Stop::Refused(refusal, need)) => Told::refused(refusal, need).by_papers(),
             Err(Stop::RefusedBeside(refusal, need)) => Told::refused(refusal, need),
             Err(Stop::AtOdds(why)) => {
                 let (handed, outcome) = (handed(&parts, CELL), Err(why));

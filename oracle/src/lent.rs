@@ -22,6 +22,11 @@ impl Lent {
         &mut self.0[GUARD.len()..end]
     }
 
+    /// The number that the bytes are.
+    pub fn number(&self) -> u32 {
+        u32::from_le_bytes(self.bytes().try_into().expect("a number has four bytes"))
+    }
+
     fn guards_kept(&self) -> bool {
         self.0.starts_with(&GUARD) && self.0.ends_with(&GUARD)
     }
@@ -47,6 +52,11 @@ pub struct Part<'a> {
 impl<'a> Part<'a> {
     pub fn read(name: &'static str, form: Form, bytes: impl Into<Cow<'a, [u8]>>) -> Part<'a> {
         Part { name, form, bytes: bytes.into(), used: Use::Read }
+    }
+
+    /// A number, which is handed over by value.
+    pub fn number(name: &'static str, form: Form, number: u32) -> Part<'a> {
+        Part::read(name, form, number.to_le_bytes().to_vec())
     }
 
     /// A part that the call may write.

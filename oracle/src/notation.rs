@@ -2,7 +2,8 @@
 //! `<text>` (a length byte and a text), `[text]` (a cell of 16 bytes), or `{N}` and a piece N times.
 
 use crate::prelude::*;
-use crate::records::number;
+use crate::records::{number, u32_at};
+use crate::settings::RECORD;
 use crate::tables::phone_names;
 
 /// What bytes are, which tells how they are written.
@@ -19,6 +20,12 @@ pub enum Form {
     Sheet,
     /// Any bytes, at whose front a call leaves as many cells as its answer says.
     Cells,
+    /// A number, and the bits of a float.
+    Number,
+    Float,
+    Settings,
+    /// The numbers that read_settings gives back, behind its refusal.
+    Shown,
 }
 
 impl Form {
@@ -30,6 +37,10 @@ impl Form {
             Form::PhoneList => or_dot(cells_of(given, given.len() / CELL)),
             Form::Store => store(given),
             Form::Sheet => sheet(given),
+            Form::Number => u32_at(given, 0).to_string(),
+            Form::Float => float(u32_at(given, 0)),
+            Form::Settings => settings(given),
+            Form::Shown => shown(given),
         }
     }
 
@@ -92,14 +103,35 @@ pub fn store(store: &[u8]) -> String {
 /// A sheet: item by item, with texts as such.
 pub fn sheet(sheet: &[u8]) -> String {
     let used = sheet.get(8..10).map_or(0, number);
-    or_dot(records(sheet, ITEM, used + 1, |item| {
-        // a text's length stands at 16, the text behind it
-        let end = 17 + item.get(16).map_or(0, |len| usize::from(*len));
-        match item.get(17..end).and_then(|name| marked(name, '<', '>')) {
-            Some(name) => pieces(&item[..16]) + &name + &pieces(&item[end..]),
-            None => pieces(item),
-        }
-    }))
+    or_dot(records(sheet, ITEM, used + 1, |item| with_text(item, 16)))
+}
+
+/// A settings store: record by record, with names as such.
+fn settings(store: &[u8]) -> String {
+    let (head, rest) = store.split_at(store.len().min(RECORD));
+    or_dot(pieces(head) + &records(rest, RECORD, rest.len(), |record| with_text(record, 2)))
+}
+
+/// What read_settings shows.
+fn shown(numbers: &[u8]) -> String {
+    let [count, pitch, stretch, level, rack] = [0, 4, 8, 12, 16].map(|at| u32_at(numbers, at));
+    let ([pitch, level], [stretch, rack]) =
+        ([pitch, level].map(|n| n as i32), [stretch, rack].map(float));
+    format!("count {count} pitch {pitch} stretch {stretch} level {level} rack {rack}")
+}
+
+/// A float: its bits, and the number that they are.
+pub fn float(bits: u32) -> String {
+    format!("{bits:08x}({:?})", f32::from_bits(bits))
+}
+
+/// A record with a text in it, whose length stands at this place.
+fn with_text(record: &[u8], at: usize) -> String {
+    let end = at + 1 + record.get(at).map_or(0, |len| usize::from(*len));
+    match record.get(at + 1..end).and_then(|text| marked(text, '<', '>')) {
+        Some(text) => pieces(&record[..at]) + &text + &pieces(&record[end..]),
+        None => pieces(record),
+    }
 }
 
 /// So many records one by one, as far as there are bytes; then the bytes behind.

@@ -1,6 +1,7 @@
 //! The proved library, through its C interface: a slice is a pointer and a length.
 
 use crate::lent::Lent;
+use crate::settings;
 use std::fmt;
 
 #[repr(C)]
@@ -39,21 +40,21 @@ impl fmt::Display for Answer {
 /// A function of the library, given what it is lent.
 pub type Function = fn(&mut [Lent]) -> Answer;
 
-/// Functions of the library by their slices; each gets these, in this order.
+/// Functions of the library by their slices, with numbers in brackets behind a slice; each gets these, in this order.
 macro_rules! library {
-    ($($name:ident = $function:ident($($slice:ident),*);)*) => {
+    ($($name:ident = $function:ident($($slice:ident $([$($number:ident),*])?),*);)*) => {
         #[link(name = "pronouncer", kind = "static")]
         extern "C" {
-            $(fn $function($($slice: *mut u8, _: usize),*) -> Answer;)*
+            $(fn $function($($slice: *mut u8, _: usize $($(, $number: u32)*)?),*) -> Answer;)*
         }
 
         $(pub fn $name(lent: &mut [Lent]) -> Answer {
-            let [$($slice),*] = lent else {
+            let [$($slice $($(, $number)*)?),*] = lent else {
                 panic!("{} takes other slices", stringify!($name))
             };
             $(let $slice = $slice.bytes_mut();)*
             // SAFETY: each pointer and length is a whole slice that nothing else refers to.
-            unsafe { $function($($slice.as_mut_ptr(), $slice.len()),*) }
+            unsafe { $function($($slice.as_mut_ptr(), $slice.len() $($(, $number.number())*)?),*) }
         })*
     };
 }
@@ -74,4 +75,33 @@ library! {
         lex_phones, lex_index, lex_data, lts_phones, lts_index, lts_model, store, sheet, word, tag
     );
     phone_string = pronouncer_phone_string(sheet, out);
+    write_setting = pronouncer_write_setting(settings [version], name [kind, value]);
+}
+
+/// What read_settings gives back.
+#[repr(C)]
+struct Settings {
+    refusal: u32,
+    count: u32,
+    pitch: i32,
+    stretch: f32,
+    level: i32,
+    rack: f32,
+}
+
+extern "C" {
+    fn pronouncer_read_settings(settings: *mut u8, _: usize, version: u32, show: f32) -> Settings;
+}
+
+/// The numbers behind the refusal go into the last that is lent, bit for bit.
+pub fn read_settings(lent: &mut [Lent]) -> Answer {
+    let [settings, version, show, shown] = lent else { panic!("read_settings takes other slices") };
+    let (settings, version) = (settings.bytes_mut(), version.number());
+    let (start, len, show) = (settings.as_mut_ptr(), settings.len(), f32::from_bits(show.number()));
+    // SAFETY: the pointer and the length are a whole slice that nothing else refers to.
+    let told = unsafe { pronouncer_read_settings(start, len, version, show) };
+    let Settings { refusal, count, pitch, stretch, level, rack } = told;
+    let numbers = [count, pitch as u32, stretch.to_bits(), level as u32, rack.to_bits()];
+    shown.bytes_mut().copy_from_slice(&settings::in_bytes(numbers));
+    Answer { refusal, ..Answer::accepted(0, 0) }
 }

@@ -11,6 +11,11 @@ pub fn number(bytes: &[u8]) -> usize {
     usize::from(u16::from_le_bytes([bytes[0], bytes[1]]))
 }
 
+pub fn u32_at(bytes: &[u8], at: usize) -> u32 {
+    let (front, _) = bytes[at..].split_first_chunk().expect("four bytes stand there");
+    u32::from_le_bytes(*front)
+}
+
 pub fn put(bytes: &mut [u8], at: usize, value: usize) {
     bytes[at..at + 2].copy_from_slice(&(value as u16).to_le_bytes());
 }

@@ -5,7 +5,7 @@
 macro_rules! rows {
     ($vis:vis $all:ident:
      $($(#[$about:meta])* $met:ident($($given:ident: $kind:ty),* $(,)?)
-       $({ $($before:tt)* })? [ $($name:literal => $is_met:expr),* $(,)? ])*) => {
+       $({ $($before:tt)* })? [ $($name:expr => $is_met:expr),* $(,)? ])*) => {
         $vis const $all: &[&[&str]] = &[$(&[$($name),*]),*];
 
         $($(#[$about])*
@@ -37,7 +37,7 @@ macro_rules! checks {
 }
 
 /// The rank order of the refusals.
-const RANKS: [u32; 9] = [1, 2, 3, 4, 5, 6, 7, 8, 9];
+const RANKS: [u32; 12] = [1, 2, 15, 16, 17, 3, 4, 5, 6, 7, 8, 9];
 
 /// The rows that an input met.
 #[derive(Default)]

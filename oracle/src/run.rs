@@ -50,7 +50,7 @@ impl<C: Call + 'static> Runner<C> {
     }
 
     fn shown(&self, input: &C::Input, (expected, ours): &Both) -> String {
-        let by = if expected.asked { "the Rust" } else { "01" };
+        let by = if expected.asked { "the Rust" } else { "papers" };
         let (wanted, first) = match &expected.outcome {
             Ok(outcome) => (self.outcome(input, outcome), first_difference(outcome, ours)),
             Err(why) => (why.clone(), String::new()),
@@ -142,7 +142,7 @@ pub fn run(calls: &mut [Box<dyn Compared>], limit: Limit) -> Result<(), String> 
     let a_second = grouped((all as f64 / seconds) as usize);
     let (all, asked) = (grouped(all), grouped(asked));
     println!(
-        "{all} calls, {asked} of them beside the Rust, the others refused or answered as 01 says: \
+        "{all} calls, {asked} of them beside the Rust, the others refused or answered as the papers say: \
         no difference\n{seconds:.1} s, {a_second} calls a second\n"
     );
     Ok(())

@@ -88,6 +88,12 @@ impl Shrink for u8 {
     }
 }
 
+impl Shrink for u32 {
+    fn smaller(&self) -> Vec<u32> {
+        vec![]
+    }
+}
+
 /// Parts are left out of a list, and its first elements made smaller.
 impl<T: Shrink> Shrink for Vec<T> {
     fn smaller(&self) -> Vec<Vec<T>> {

@@ -50,7 +50,7 @@ impl Tally {
 
     pub fn print(&self) {
         let by = match self.asked {
-            0 => "by 01".into(),
+            0 => "by the papers".into(),
             asked => format!("{} beside the Rust", grouped(asked)),
         };
         let calls = grouped(self.calls());

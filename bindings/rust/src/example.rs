@@ -1,7 +1,9 @@
 //! Tiny sections to try the calls with: three entries, a phone for each letter, and words of letters with a
-//! vowel among them as sayable ones. They serve the examples here; a show has its own.
+//! vowel among them as sayable ones; and a rack's settings. They serve the examples here; a show has its own.
 
 use crate::sections::{Letters, Lexicon, Sayable};
+use crate::settings::Setting;
+use crate::RECORD_BYTES;
 
 /// cat (noun), lead (noun) and lead (verb); and phones with stress to add others.
 pub const LEXICON: Lexicon<'static> = Lexicon {
@@ -22,6 +24,16 @@ pub const LETTERS: Letters<'static> = Letters {
 
 /// A word of letters that has a vowel.
 pub const SAYABLE: Sayable<'static> = Sayable { prefix: &MACHINE, suffix: &MACHINE };
+
+/// Settings of version 2 with a record for each: pitch 120, stretch 1.25, level 75.
+pub const SETTINGS: [u8; 4 * RECORD_BYTES] = {
+    let mut settings = [0; 4 * RECORD_BYTES];
+    settings[0] = 2;
+    settings[2] = 1;
+    settings = with_record(settings, 1, 2, b"pitch", Setting::Whole(120));
+    settings = with_record(settings, 2, 3, b"stretch", Setting::Real(1.25));
+    with_record(settings, 3, 0, b"level", Setting::Whole(75))
+};
 
 /// Letter n starts at node n.
 const FIRST_NODES: [u8; 52] = {
@@ -62,3 +74,29 @@ const MACHINE: [u8; 4 + 2 * 23] = {
     }
     machine
 };
+
+/// Settings with one more record, which names the next.
+const fn with_record(
+    mut settings: [u8; 4 * RECORD_BYTES],
+    record: usize,
+    next: u8,
+    name: &[u8],
+    value: Setting,
+) -> [u8; 4 * RECORD_BYTES] {
+    let start = record * RECORD_BYTES;
+    settings[start] = next;
+    settings[start + 2] = name.len() as u8;
+    let mut place = 0;
+    while place < name.len() {
+        settings[start + 3 + place] = name[place];
+        place += 1;
+    }
+    settings[start + 18] = value.kind() as u8;
+    let bits = value.bits().to_le_bytes();
+    let mut place = 0;
+    while place < bits.len() {
+        settings[start + 19 + place] = bits[place];
+        place += 1;
+    }
+    settings
+}

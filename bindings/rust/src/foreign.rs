@@ -6,7 +6,7 @@
 
 use crate::refusal::{Refusal, Refused};
 
-/// What every call gives back.
+/// What every call gives back, but for `pronouncer_read_settings`.
 #[repr(C)]
 #[derive(Clone, Copy)]
 #[allow(dead_code)] // the last two fields are 0 in every answer
@@ -33,6 +33,28 @@ impl Answer {
 
     pub fn count(self) -> usize {
         self.value as usize
+    }
+}
+
+/// What `pronouncer_read_settings` gives back.
+#[repr(C)]
+#[derive(Clone, Copy)]
+pub struct Settings {
+    pub refusal: u32,
+    pub count: u32,
+    pub pitch: i32,
+    pub stretch: f32,
+    pub level: i32,
+    pub rack: f32,
+}
+
+impl Settings {
+    /// The answer of an accepted call.
+    pub fn accepted(self) -> Result<Settings, Refused> {
+        match self.refusal {
+            0 => Ok(self),
+            number => Err(Refusal::of_number(number).into()),
+        }
     }
 }
 
@@ -149,6 +171,23 @@ extern "C" {
         sheet_len: usize,
         out: *mut u8,
         out_len: usize,
+    ) -> Answer;
+
+    fn pronouncer_read_settings(
+        settings: *const u8,
+        settings_len: usize,
+        version: u32,
+        show: f32,
+    ) -> Settings;
+
+    fn pronouncer_write_setting(
+        settings: *mut u8,
+        settings_len: usize,
+        version: u32,
+        name: *const u8,
+        name_len: usize,
+        kind: u32,
+        value: u32,
     ) -> Answer;
 
     fn pronouncer_is_vowel(phone: *const u8, phone_len: usize) -> Answer;
@@ -309,6 +348,30 @@ pub fn say_word(
 
 pub fn phone_string(sheet: &[u8], out: &mut [u8]) -> Answer {
     unsafe { pronouncer_phone_string(sheet.as_ptr(), sheet.len(), out.as_mut_ptr(), out.len()) }
+}
+
+pub fn read_settings(settings: &[u8], version: u32, show: f32) -> Settings {
+    unsafe { pronouncer_read_settings(settings.as_ptr(), settings.len(), version, show) }
+}
+
+pub fn write_setting(
+    settings: &mut [u8],
+    version: u32,
+    name: &[u8],
+    kind: u32,
+    value: u32,
+) -> Answer {
+    unsafe {
+        pronouncer_write_setting(
+            settings.as_mut_ptr(),
+            settings.len(),
+            version,
+            name.as_ptr(),
+            name.len(),
+            kind,
+            value,
+        )
+    }
 }
 
 pub fn is_vowel(phone: &[u8]) -> Answer {

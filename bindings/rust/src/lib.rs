@@ -1,11 +1,11 @@
-//! The pronouncer: which phones a word has, cut into syllables, on a sheet. Eleven calls of a library that is
-//! written in Rattle and proved; this crate is plain Rust around it.
+//! The pronouncer: which phones a word has, cut into syllables, on a sheet; and the voice settings of a rack.
+//! Thirteen calls of a library that is written in Rattle and proved; this crate is plain Rust around it.
 //!
 //! Tables are handed over as borrowed sections ([`Lexicon`], [`Letters`], [`Sayable`]), entries are added to
-//! a lent [`Store`], words are said onto a lent [`Sheet`]. No call allocates, and nothing is kept between
-//! calls but the bytes that were lent. Every call takes any bytes, also those of a stranger's file: it
-//! answers, or it is [`Refused`] and leaves every lent byte as it was, but for the spare of
-//! [`Store::add_entries`].
+//! a lent [`Store`], words are said onto a lent [`Sheet`], settings are read from lent bytes and written there.
+//! No call allocates, and nothing is kept between calls but the bytes that were lent. Every call takes any
+//! bytes, also those of a stranger's file: it answers, or it is [`Refused`] and leaves every lent byte as it
+//! was, but for the spare of [`Store::add_entries`].
 //!
 //! ```
 //! use pronouncer::{example, Sheet, Store};
@@ -43,11 +43,13 @@
 //! | `new_sheet` | [`Sheet::new_sheet`] |
 //! | `say_word` | [`Sheet::say_word`] |
 //! | `phone_string` | [`Sheet::phone_string`] |
+//! | `read_settings` | [`read_settings`] |
+//! | `write_setting` | [`write_setting`] |
 //!
 //! With the feature `std` the crate also reads a folder of sections (`Tables`); else it is `no_std`.
 //!
-//! The layout of sections, store and sheet is told in `docs/FORMATS.md`. The library links into x86-64
-//! programs.
+//! The layout of sections, store, sheet and settings is told in `docs/FORMATS.md`. The library links into
+//! x86-64 programs.
 
 #![no_std]
 #![forbid(unsafe_op_in_unsafe_fn)]
@@ -70,6 +72,7 @@ mod items;
 mod phones;
 mod refusal;
 mod sections;
+mod settings;
 mod sheet;
 mod store;
 #[cfg(feature = "std")]
@@ -80,6 +83,7 @@ pub use entries::{Entries, Entry};
 pub use phones::{is_vowel, split_stress, ListedPhones, PhoneList, Stress};
 pub use refusal::{Refusal, Refused};
 pub use sections::{Found, Letters, Lexicon, Sayable, Source};
+pub use settings::{read_settings, write_setting, Setting, Settings};
 pub use sheet::{Phones, Sheet, Syllable, Syllables, Word, Words};
 pub use store::Store;
 #[cfg(feature = "std")]
@@ -92,11 +96,17 @@ pub const SLOT_BYTES: usize = 512;
 /// Bytes of an item of the sheet.
 pub const ITEM_BYTES: usize = 64;
 
+/// Bytes of a record of the settings.
+pub const RECORD_BYTES: usize = 32;
+
 /// Bytes of a phone in a list.
 pub const CELL_BYTES: usize = 16;
 
-/// Bytes of the largest store and of the largest sheet.
+/// Bytes of the largest store, of the largest sheet and of the largest settings.
 pub const LARGEST_BYTES: usize = 65_536;
+
+/// Bytes of the longest name of a setting.
+pub const NAME_BYTES: usize = 15;
 
 /// Bytes of the longest word and of the longest tag.
 pub const WORD_BYTES: usize = 47;

@@ -3,7 +3,8 @@ use core::fmt;
 
 use crate::unsound::Unsound;
 
-/// Why a call was refused. The lowest [number](Refusal::number) that applies is told.
+/// Why a call was refused. Where several apply, the first in rank order is told; `docs/FORMATS.md` has the
+/// order.
 ///
 /// ```
 /// use pronouncer::Refusal;
@@ -17,7 +18,8 @@ use crate::unsound::Unsound;
 pub enum Refusal {
     /// 1: a section breaks its form.
     Section,
-    /// 2: a store or sheet has a wrong length or is not sound, or the spare's length is not the store's.
+    /// 2: a store or sheet has a wrong length or is not sound, settings have a wrong length, or the spare's
+    /// length is not the store's.
     Unsound,
     /// 3: a word or tag is over 47 bytes, or a text has a byte of 128 or more.
     Text,
@@ -33,6 +35,12 @@ pub enum Refusal {
     Full,
     /// 9: the sheet has too few unused items, or an output is too short.
     Short,
+    /// 15: the version of the settings or the reader's is neither 1 nor 2.
+    Version,
+    /// 16: the settings' records break their form, or a setting to be written is unknown or has no record.
+    Records,
+    /// 17: a known setting, a value to be written or the show's stretch is of the wrong kind or out of range.
+    Range,
     /// A number that this crate does not know: the library is a later one.
     Other(u32),
 }
@@ -50,6 +58,9 @@ impl Refusal {
             Refusal::Phones => 7,
             Refusal::Full => 8,
             Refusal::Short => 9,
+            Refusal::Version => 15,
+            Refusal::Records => 16,
+            Refusal::Range => 17,
             Refusal::Other(number) => number,
         }
     }
@@ -65,6 +76,9 @@ impl Refusal {
             7 => Refusal::Phones,
             8 => Refusal::Full,
             9 => Refusal::Short,
+            15 => Refusal::Version,
+            16 => Refusal::Records,
+            17 => Refusal::Range,
             other => Refusal::Other(other),
         }
     }
@@ -74,7 +88,8 @@ impl Refusal {
         match self {
             Refusal::Section => "a section breaks its form",
             Refusal::Unsound => {
-                "a store or sheet has a wrong length or is not sound, or the spare is not as long as the store"
+                "a store or sheet has a wrong length or is not sound, settings have a wrong length, \
+                 or the spare is not as long as the store"
             }
             Refusal::Text => "a word or tag is over 47 bytes, or a text has a byte of 128 or more",
             Refusal::Line => "the line has no colon, or no word before it",
@@ -85,6 +100,14 @@ impl Refusal {
             }
             Refusal::Full => "the store has no unused slot and no entry of that word and tag",
             Refusal::Short => "the sheet has too few unused items, or the output is too short",
+            Refusal::Version => "the version of the settings or the reader's is neither 1 nor 2",
+            Refusal::Records => {
+                "the settings have an index outside, a circle, a name twice or a length or kind out of range, \
+                 or the setting to write is unknown to that version or has no record"
+            }
+            Refusal::Range => {
+                "a known setting, the value to write or the show's stretch is of the wrong kind or out of range"
+            }
             Refusal::Other(_) => "the library gave a number that this crate does not know",
         }
     }
@@ -97,7 +120,8 @@ impl Refusal {
             }
             Refusal::Unsound => {
                 "lend a store of 512 to 65,536 bytes, a multiple of 512, or a sheet of 64 to 65,536, \
-                 begin it with new_store or new_sheet, and let only calls write it"
+                 begin it with new_store or new_sheet, and let only calls write it; \
+                 lend settings of 32 to 65,536 bytes"
             }
             Refusal::Text => "write it shorter, or in ASCII",
             Refusal::Line => "write WORD TAG : PHONE PHONE, or begin the line with # if it is a remark",
@@ -114,6 +138,19 @@ impl Refusal {
             Refusal::Short => {
                 "begin a new sheet, or lend more bytes: 64 for each word, syllable and phone of a sheet, \
                  16 a phone, 1 a mark, 1 a character"
+            }
+            Refusal::Version => {
+                "ask with version 1 or 2; settings of another version are read by the library that has it, \
+                 or written anew as docs/FORMATS.md lays them out"
+            }
+            Refusal::Records => {
+                "where the records are at fault write new settings as docs/FORMATS.md lays them out; \
+                 else write a setting that the version knows and that has a record: no call adds one"
+            }
+            Refusal::Range => {
+                "hand over pitch as a whole number of 50 to 400, stretch as a float of 0.25 to 4.0, \
+                 level as a whole number of 0 to 100; where the settings hold another value \
+                 no write mends them: write new settings as docs/FORMATS.md lays them out"
             }
             Refusal::Other(_) => "build this crate and libpronouncer.a from one checkout",
         }

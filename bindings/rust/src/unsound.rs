@@ -2,7 +2,7 @@ use core::fmt;
 
 use crate::foreign::{self, Answer};
 use crate::refusal::{Refusal, Refused};
-use crate::{ITEM_BYTES, LARGEST_BYTES, SLOT_BYTES};
+use crate::{ITEM_BYTES, LARGEST_BYTES, RECORD_BYTES, SLOT_BYTES};
 
 /// Which of its causes a refusal by [`Unsound`](Refusal::Unsound) has: the first that applies.
 ///
@@ -34,6 +34,8 @@ pub enum Unsound {
         /// Bytes of the spare.
         spare: usize,
     },
+    /// The settings have so many bytes, which are not 32 to 65,536.
+    SettingsLength(usize),
 }
 
 impl Unsound {
@@ -45,6 +47,7 @@ impl Unsound {
             Unsound::SheetLength(_) => "lend 64 to 65,536",
             Unsound::SheetBytes => "begin it with new_sheet, and let only calls write it",
             Unsound::SpareLength { .. } => "lend a spare as long as the store",
+            Unsound::SettingsLength(_) => "lend 32 to 65,536",
         }
     }
 }
@@ -64,6 +67,17 @@ impl fmt::Display for Unsound {
             Unsound::SpareLength { store, spare } => {
                 write!(f, "the spare has {spare} bytes and the store {store}")
             }
+            Unsound::SettingsLength(bytes) => write!(f, "the settings have {bytes} bytes"),
+        }
+    }
+}
+
+impl Refused {
+    /// With the cause of a refusal by 2, which `find` tells.
+    pub(crate) fn because(self, find: impl FnOnce() -> Option<Unsound>) -> Refused {
+        match self.refusal {
+            Refusal::Unsound => Refused { unsound: find(), ..self },
+            _ => self,
         }
     }
 }
@@ -71,10 +85,7 @@ impl fmt::Display for Unsound {
 impl Answer {
     /// The answer of an accepted call on a store or a sheet; `find` tells the cause of a refusal by 2.
     pub fn accepted_on(self, find: impl FnOnce() -> Option<Unsound>) -> Result<Answer, Refused> {
-        self.accepted().map_err(|refused| match refused.refusal {
-            Refusal::Unsound => Refused { unsound: find(), ..refused },
-            _ => refused,
-        })
+        self.accepted().map_err(|refused| refused.because(find))
     }
 }
 
@@ -104,6 +115,13 @@ pub fn in_sheet(bytes: &[u8]) -> Option<Unsound> {
 pub fn in_spare(store: &[u8], spare: &[u8]) -> Option<Unsound> {
     let (store, spare) = (store.len(), spare.len());
     (store != spare).then_some(Unsound::SpareLength { store, spare })
+}
+
+/// Why settings are refused by 2, which their length alone decides.
+pub fn in_settings(bytes: &[u8]) -> Option<Unsound> {
+    let length = bytes.len();
+    let is_wrong = !(RECORD_BYTES..=LARGEST_BYTES).contains(&length);
+    is_wrong.then_some(Unsound::SettingsLength(length))
 }
 
 /// By 2.

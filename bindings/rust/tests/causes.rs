@@ -1,4 +1,5 @@
-//! Which cause a refusal by 2 has, of each call that takes a store or a sheet, and its message.
+//! Which cause a refusal by 2 has, of each call that takes a store or a sheet, and its message. Those of the
+//! settings' calls stand in settings.rs.
 
 mod sections;
 
@@ -113,6 +114,10 @@ fn its_message() {
                 spare: 512,
             },
             "the spare has 512 bytes and the store 1024 (refusal 2); lend a spare as long as the store",
+        ),
+        (
+            Unsound::SettingsLength(31),
+            "the settings have 31 bytes (refusal 2); lend 32 to 65,536",
         ),
     ];
     for (cause, message) in messages {

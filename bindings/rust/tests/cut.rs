@@ -1,7 +1,10 @@
-//! Sections and sheets cut off at every length. Each lies in bytes of its own, so that memcheck sees a step
+//! Sections, sheets and settings cut off at every length. Each lies in bytes of its own, so that memcheck sees a step
 //! beyond them.
 
-use pronouncer::{example, Letters, Lexicon, Refusal, Refused, Sayable, Sheet, Store};
+use pronouncer::{
+    example, read_settings, write_setting, Letters, Lexicon, Refusal, Refused, Sayable, Setting,
+    Sheet, Store,
+};
 
 /// The first bytes of a text in an allocation of just that length.
 fn cut(bytes: &[u8], length: usize) -> Box<[u8]> {
@@ -116,4 +119,16 @@ fn sheet_and_store() {
         let told = example::LEXICON.lookup(&Store::over(&mut bytes), "fly", "", &mut out);
         assert_eq!(told.map(drop).map_err(|refused| refused.refusal), Err(Refusal::Unsound));
     }
+}
+
+#[test]
+fn settings() {
+    let refusal = |length: usize| if length < 32 { Refusal::Unsound } else { Refusal::Records };
+    let read = |settings: &[u8]| read_settings(settings, 2, 2.0).map(|shown| shown.rack);
+    each_cut(&example::SETTINGS, read, 2.5, refusal);
+    let write = |settings: &[u8]| {
+        let (mut settings, name) = (cut(settings, settings.len()), cut(b"level", 5));
+        write_setting(&mut settings, 2, &name, Setting::Whole(1))
+    };
+    each_cut(&example::SETTINGS, write, (), refusal);
 }

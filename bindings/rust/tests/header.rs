@@ -1,5 +1,6 @@
-//! The C header compiles alone, as C and as C++, and the C example links and says its words. Where there is
-//! no compiler these tests say so and pass.
+//! The C header compiles alone, as C and as C++, and C programs link with the library: the example says its
+//! words, and kinds that no Rust can hand over are refused. Where there is no compiler these tests say so and
+//! pass.
 
 use std::path::{Path, PathBuf};
 use std::process::{Command, Output};
@@ -40,16 +41,28 @@ fn compiles_alone_as_cpp() {
     }
 }
 
+/// What a C program prints that ends well; nothing where there is no compiler.
+fn printed(source: &Path, name: &str) -> Option<String> {
+    let program = Path::new(env!("CARGO_TARGET_TMPDIR")).join(name);
+    let (folder, library) = (c_file(""), Path::new(env!("PRONOUNCER_FOUND")));
+    let options = ["-std=c99", "-I"].map(Path::new);
+    let files = [&folder, source, library, Path::new("-o"), &program];
+    assert_accepted(compiled("cc", &[&options[..], &files[..]].concat())?);
+    let run = Command::new(&program).output().expect("the program runs");
+    let text = String::from_utf8_lossy(&run.stdout).into_owned();
+    assert_accepted(run);
+    Some(text)
+}
+
 #[test]
 fn example_links_and_runs() {
-    let example = Path::new(env!("CARGO_TARGET_TMPDIR")).join("example");
-    let (source, library) = (c_file("example.c"), Path::new(env!("PRONOUNCER_FOUND")));
-    let arguments = [Path::new("-std=c99"), &source, library, Path::new("-o"), &example];
-    let Some(output) = compiled("cc", &arguments) else {
-        return;
-    };
-    assert_accepted(output);
-    let said = Command::new(&example).output().expect("the example runs");
-    assert_eq!(String::from_utf8_lossy(&said.stdout), "t ao r m eh n t er ey\n");
-    assert_accepted(said);
+    let wanted = "t ao r m eh n t er ey\npitch 120, stretch 1, level 80, rack 1.5\n";
+    let said = printed(&c_file("example.c"), "example");
+    said.into_iter().for_each(|said| assert_eq!(said, wanted));
+}
+
+#[test]
+fn kinds_of_settings() {
+    let source = Path::new(env!("CARGO_MANIFEST_DIR")).join("tests/kinds.c");
+    printed(&source, "kinds");
 }

@@ -1,4 +1,5 @@
-//! Every refusal that each call can give, with its line, and that no lent byte is altered then.
+//! Every refusal that each call can give, with its line, and that no lent byte is altered then. Those of the
+//! settings' calls stand in settings.rs.
 
 mod sections;
 
@@ -290,22 +291,26 @@ fn phone_string() {
 #[test]
 fn each_message_says_cause_and_cure() {
     let all = [
-        Refusal::Section,
-        Refusal::Unsound,
-        Refusal::Text,
-        Refusal::Line,
-        Refusal::UnknownPhone,
-        Refusal::Damaged,
-        Refusal::Phones,
-        Refusal::Full,
-        Refusal::Short,
-        Refusal::Other(10),
+        (Refusal::Section, 1),
+        (Refusal::Unsound, 2),
+        (Refusal::Text, 3),
+        (Refusal::Line, 4),
+        (Refusal::UnknownPhone, 5),
+        (Refusal::Damaged, 6),
+        (Refusal::Phones, 7),
+        (Refusal::Full, 8),
+        (Refusal::Short, 9),
+        (Refusal::Version, 15),
+        (Refusal::Records, 16),
+        (Refusal::Range, 17),
+        (Refusal::Other(18), 18),
     ];
-    for (place, refusal) in all.into_iter().enumerate() {
-        assert_eq!(refusal.number() as usize, place + 1);
+    for (refusal, number) in all {
+        assert_eq!(refusal.number(), number);
         let message = refused(refusal).to_string();
-        let wanted = [refusal.cause(), &format!("(refusal {})", place + 1), refusal.cure()];
+        let wanted = [refusal.cause(), &format!("(refusal {number})"), refusal.cure()];
         assert!(wanted.iter().all(|part| message.contains(part)), "{message}");
         assert!(!message.contains("line 0"), "{message}");
     }
+    assert!(Refusal::Range.cure().contains("no write mends them: write new settings"));
 }

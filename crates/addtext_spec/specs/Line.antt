@@ -1,4 +1,4 @@
--- 01, Lookup: Adding. What a line of a text of entries says, and the lowest of the refusals 3, 4, 5, 7 and 8 that applies to it.
+-- 01, Lookup: Adding. What a line of a text of entries says, and the first of the refusals 3, 4, 5, 7 and 8 that applies to it.
 -- Assumes nothing.
 use Prim.Native.Nat.{ℕ, _+_}
 use mathlib.Core.Path.{_≡_}
@@ -46,7 +46,7 @@ readLine l = onContent (content l)
 unfoldable pub lineEntry : List ℕ → List ℕ → List (List ℕ) → Entry
 lineEntry word tag phones = record { tag = addedTag tag; word = map folded word; phones = phones }
 
--- what comes of an entry line in a store: the lowest refusal that applies, or it is taken; every byte of the text is below 128 by then
+-- what comes of an entry line in a store: the first refusal that applies, in rank order, or it is taken; every byte of the text is below 128 by then
 unfoldable pub judged : List ℕ → List ℕ → List ℕ → List ℕ → List (List ℕ) → Outcome
 judged table store word tag phones =
     if not (leb (length word) 47 && leb (length tag) 47) then Refused Text

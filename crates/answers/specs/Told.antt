@@ -1,12 +1,14 @@
--- 01, What a call gives back: the number of each refusal, and every case of every answer as numbers.
+-- 01, What a call gives back, and 02, S-12: the number of each refusal, and every case of every answer as numbers.
 -- Assumes nothing.
 use Prim.Native.Nat.{ℕ}
-use mathlib.Core.Bool.{cond}
+use mathlib.Core.Bool.{false, cond}
 use mathlib.Core.List.{List}
 use lib.Dec.{eqb}
+use lib.IntN.{ℤ, pos}
+use lib.Ieee.{Float, fin}
 use Rattle.answers.specs.declared.Answer.{Answer}
 use Rattle.answers.specs.declared.Refusal.{Refusal}
-use Rattle.answers.specs.declared.Refusal.the-variants.{Section, Unsound, Text, Line, UnknownPhone, Damaged, Phones, Full, Short}
+use Rattle.answers.specs.declared.Refusal.the-variants.{Section, Unsound, Text, Line, UnknownPhone, Damaged, Phones, Full, Short, Version, Records, Range}
 use Rattle.answers.specs.declared.Source.{Source}
 use Rattle.answers.specs.declared.Source.the-variants.{Runtime, Addenda, Compiled}
 use Rattle.answers.specs.declared.Verdict.{Verdict}
@@ -25,8 +27,11 @@ use Rattle.answers.specs.declared.Said.{Said}
 use Rattle.answers.specs.declared.Said.the-variants.{Refused as notSaid, Accepted as said}
 use Rattle.answers.specs.declared.Joined.{Joined}
 use Rattle.answers.specs.declared.Joined.the-variants.{Refused as notJoined, Bytes}
+use Rattle.answers.specs.declared.Settings.{Settings}
+use Rattle.answers.specs.declared.Shown.{Shown}
+use Rattle.answers.specs.declared.Shown.the-variants.{Refused as notShown, First, Second}
 
--- 01's number of a refusal
+-- the papers' number of a refusal
 abbrev pub refusalNumber : Refusal → ℕ
 refusalNumber Section = 1
 refusalNumber Unsound = 2
@@ -37,6 +42,9 @@ refusalNumber Damaged = 6
 refusalNumber Phones = 7
 refusalNumber Full = 8
 refusalNumber Short = 9
+refusalNumber Version = 15
+refusalNumber Records = 16
+refusalNumber Range = 17
 
 -- the sources in 01's order
 abbrev pub sourceNumber : Source → ℕ
@@ -89,3 +97,16 @@ toldSaid said = accepted 0 0
 abbrev pub toldJoined : Joined → Answer
 toldJoined (notJoined r) = refused (refusalNumber r) 0
 toldJoined (Bytes n) = accepted 0 n
+
+-- 02, S-12: refused by a number, which shows no settings
+abbrev pub noSettings : ℕ → Settings
+noSettings n = record { refusal = n; count = 0; pitch = pos 0; stretch = fin false 0 (pos 0); level = pos 0; rack = fin false 0 (pos 0) }
+
+-- so many settings are shown, and the rack's stretch
+abbrev pub showing : ℕ → ℤ → Float → ℤ → Float → Settings
+showing n pitch stretch level rack = record { refusal = 0; count = n; pitch = pitch; stretch = stretch; level = level; rack = rack }
+
+abbrev pub toldShown : Shown → Settings
+toldShown (notShown r) = noSettings (refusalNumber r)
+toldShown (First pitch stretch rack) = showing 2 pitch stretch (pos 0) rack
+toldShown (Second pitch stretch level rack) = showing 3 pitch stretch level rack

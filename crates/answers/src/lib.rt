@@ -1,9 +1,9 @@
 // What a call gives back (01, What a call gives back): why it was refused, or its answer; and the
 // one form of numbers in which every answer leaves the library.
 ghost use mathlib.Core.Path.{_≡_};
-ghost use Rattle.answers.specs.Told.{refusalNumber, sourceNumber, refused as refusedBy, accepted as acceptedAs, toldVerdict, toldLooked, toldPredicted, toldMarked, toldDone, toldLines, toldSaid, toldJoined};
+ghost use Rattle.answers.specs.Told.{refusalNumber, sourceNumber, refused as refusedBy, accepted as acceptedAs, toldVerdict, toldLooked, toldPredicted, toldMarked, toldDone, toldLines, toldSaid, toldJoined, noSettings, toldShown};
 
-// Why a call was refused. Their numbers are 01's, 1 to 9 in this order; the lowest that applies wins.
+// Why a call was refused: 01's numbers 1 to 9 in this order, then 02's 15, 16 and 17. docs/FORMATS.md has their ranks.
 pub enum Refusal {
     Section,
     Unsound,
@@ -14,6 +14,9 @@ pub enum Refusal {
     Phones,
     Full,
     Short,
+    Version,
+    Records,
+    Range,
 }
 
 // Where a pronunciation was found.
@@ -49,7 +52,7 @@ pub enum Marked {
     Marks(usize),
 }
 
-// new store, add entry and new sheet
+// new store, add entry, new sheet and write setting
 pub enum Done {
     Refused(Refusal),
     Accepted,
@@ -71,6 +74,26 @@ pub enum Said {
 pub enum Joined {
     Refused(Refusal),
     Bytes(usize),
+}
+
+// read settings: what a reader of version 1 is shown (pitch, stretch, the rack's stretch), and one of version 2 (pitch,
+// stretch, level, the rack's stretch)
+pub enum Shown {
+    Refused(Refusal),
+    First(i32, f32, f32),
+    Second(i32, f32, i32, f32),
+}
+
+// What read settings shows, in the form that C sees: `refusal` is 0 where the call was accepted, `count` how many
+// settings are shown, 2 or 3; where it is 2 there is no level.
+#[repr(C)]
+pub struct Settings {
+    pub refusal: u32,
+    pub count: u32,
+    pub pitch: i32,
+    pub stretch: f32,
+    pub level: i32,
+    pub rack: f32,
 }
 
 // An answer as numbers, in the form that C sees: `refusal` is 0 where the call was accepted, `kind`
@@ -97,6 +120,9 @@ fn refusal_number(r: Refusal) -> u32
         Refusal::Phones => 7,
         Refusal::Full => 8,
         Refusal::Short => 9,
+        Refusal::Version => 15,
+        Refusal::Records => 16,
+        Refusal::Range => 17,
     }
 }
 
@@ -205,5 +231,42 @@ pub fn told_joined(a: Joined) -> Answer
     match a {
         Joined::Refused(r) => refused(r, 0),
         Joined::Bytes(n) => accepted(0, n),
+    }
+}
+
+fn no_settings(r: Refusal) -> Settings
+    ensures { λ a. ⌜ a ≡ noSettings (refusalNumber r) ⌝ }
+{
+    Settings {
+        refusal: refusal_number(r),
+        count: 0,
+        pitch: 0,
+        stretch: 0.0,
+        level: 0,
+        rack: 0.0,
+    }
+}
+
+pub fn told_shown(a: Shown) -> Settings
+    ensures { λ r. ⌜ r ≡ toldShown a ⌝ }
+{
+    match a {
+        Shown::Refused(r) => no_settings(r),
+        Shown::First(pitch, stretch, rack) => Settings {
+            refusal: 0,
+            count: 2,
+            pitch,
+            stretch,
+            level: 0,
+            rack,
+        },
+        Shown::Second(pitch, stretch, level, rack) => Settings {
+            refusal: 0,
+            count: 3,
+            pitch,
+            stretch,
+            level,
+            rack,
+        },
     }
 }

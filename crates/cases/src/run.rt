@@ -54,6 +54,9 @@ fn run_call(line: &[u8], regs: &[u8], room: &mut [u8], out: &mut [u8]) -> bool {
     if sheetcases::call_number(name) != 0 {
         return sheetcases::run(line, regs, room, out);
     }
+    if settingcases::call_number(name) != 0 {
+        return settingcases::run(line, regs, room, out);
+    }
     wordcases::run(line, regs, room, out)
 }
 

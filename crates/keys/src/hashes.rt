@@ -14,14 +14,7 @@ ghost use Rattle.store_spec.specs.Laws.Hashes.{hashOf, hashAt};
 fn hash(slot: &[u8]) -> u16
     ensures { λ r. ⌜ r ≡ hashOf (entryOf (now (slot .entry))) ⌝ }
 {
-    let word = slots::word(slot);
-    let mut h = slots::tag(slot) as u32;
-    let mut i = 0;
-    while i < word.len() {
-        h = (31 * h + (word[i] as u32)) % 65536;
-        i += 1;
-    }
-    h as u16
+    texts::mixed(slots::tag(slot) as u16, slots::word(slot))
 }
 
 // The hashes of the n entries behind slot 0 into hashes; how many there are.

@@ -1,4 +1,4 @@
-// The public calls as C functions. A slice is a pointer and a length; an answer is `struct Answer` by value.
+// The public calls as C functions. A slice is a pointer and a length; an answer is `struct Answer`, or for read settings `struct Settings`, by value.
 ghost use mathlib.Core.Path.{_≡_};
 ghost use lib.ListN.{length};
 ghost use Rattle.texts.specs.Choice.{bit};
@@ -17,7 +17,12 @@ ghost use Rattle.new_sheet.specs.NewSheet.{newSheet, newBytes as newSheetBytes}
 ghost use Rattle.phonestring.specs.PhoneString.{phoneString, stringAfter};
 ghost use Rattle.pipeline_spec.specs.Pronounced.{tables};
 ghost use Rattle.say_word.specs.SayWord.{sayWord, sheetAfter};
+ghost use Rattle.values.specs.Values.{settingOf};
+ghost use Rattle.read_settings.specs.ReadSettings.{readSettings};
+ghost use Rattle.write_setting.specs.WriteSetting.{writeSetting};
+ghost use Rattle.write_setting.specs.Given.{givenAfter};
 use answers::Answer;
+use answers::Settings;
 
 // lex.phones, lex.index, lex.data
 #[no_mangle]
@@ -164,7 +169,30 @@ pub extern "C" fn pronouncer_say_word(
     ))
 }
 
-// Whether a phone's text is a vowel: `kind` 1 or 0. Not one of the eleven calls.
+// a settings store, the reader's version, the show's stretch
+#[no_mangle]
+pub extern "C" fn pronouncer_read_settings(settings: &[u8], version: u32, show: f32) -> Settings
+    ensures { λ r. ⌜ r ≡ readSettings version (now (settings .entry)) show ⌝ }
+{
+    answers::told_shown(read_settings::read_settings(settings, version, show))
+}
+
+// a settings store, the reader's version, a name, a value's kind (1 whole, 2 float) and its 32 bits
+#[no_mangle]
+pub extern "C" fn pronouncer_write_setting(
+    settings: &mut [u8],
+    version: u32,
+    name: &[u8],
+    kind: u32,
+    value: u32,
+) -> Answer
+    ensures { λ r. ⌜ r ≡ writeSetting version (now (settings .entry)) (now (name .entry)) (settingOf kind value) ⌝ }
+    ensures { λ _. ⌜ now (settings .exit) ≡ givenAfter version (now (settings .entry)) (now (name .entry)) kind value ⌝ }
+{
+    answers::told_done(write_setting::write_given(settings, version, name, kind, value))
+}
+
+// Whether a phone's text is a vowel: `kind` 1 or 0. Not a call of the papers.
 #[no_mangle]
 pub extern "C" fn pronouncer_is_vowel(phone: &[u8]) -> Answer
     ensures { λ r. ⌜ r ≡ accepted (bit (isVowel (now (phone .entry)))) 0 ⌝ }
@@ -175,7 +203,7 @@ pub extern "C" fn pronouncer_is_vowel(phone: &[u8]) -> Answer
     answers::accepted(0, 0)
 }
 
-// A phone's stress as `kind`, 0 where it has none, and the length of its bare phone as `value`. Not one of the eleven calls.
+// A phone's stress as `kind`, 0 where it has none, and the length of its bare phone as `value`. Not a call of the papers.
 #[no_mangle]
 pub extern "C" fn pronouncer_split_stress(phone: &[u8]) -> Answer
     ensures { λ r. ⌜ r ≡ accepted (stress digits (now (phone .entry))) (length (bare digits (now (phone .entry)))) ⌝ }

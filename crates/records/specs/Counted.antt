@@ -1,4 +1,4 @@
--- n different numbers, all of them 1 to n, are all of those.
+-- Different numbers, all of them 1 to n, are at most n; and n of them are all of those.
 -- Assumes nothing.
 use Prim.Native.Nat.{ℕ, zero, suc, _≤_}
 use native.Mathlib.Omega.{arith}
@@ -63,7 +63,7 @@ without-within n (x ∷ xs) a d =
     rw e ((w .0, omega arith), ih))
 
 -- so there are at most n
-few : (n : ℕ) (xs : List ℕ) → All (Within n) xs → Distinct xs → length xs ≤ n
+pub few : (n : ℕ) (xs : List ℕ) → All (Within n) xs → Distinct xs → length xs ≤ n
 few zero [] a d = omega arith
 few zero (x ∷ xs) a d = let w = a .0 in absurd (omega arith)
 few (suc n) xs a d =

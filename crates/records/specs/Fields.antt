@@ -2,7 +2,7 @@
 -- Assumes nothing.
 use Prim.Native.Nat.{ℕ, _+_, _*_, _%_, _/_, _<_, _≤_}
 use native.Mathlib.Omega.{arith}
-use mathlib.Core.Path.{_≡_}
+use mathlib.Core.Path.{_≡_, _∙_}
 use mathlib.Core.Logic.{_≢_}
 use mathlib.Core.List.{List}
 use lib.ListN.{length, getD, drop, set, length-set, List·getD-eq-default}
@@ -19,6 +19,10 @@ u32At b k = u16At b k + 65536 * u16At b (k + 2)
 -- v at k, as a u16
 unfoldable pub put16 : List ℕ → ℕ → ℕ → List ℕ
 put16 b k v = set (set b k (v % 256)) (k + 1) (v / 256)
+
+-- v at k, as a u32
+unfoldable pub put32 : List ℕ → ℕ → ℕ → List ℕ
+put32 b k v = put16 (put16 b k (v % 65536)) (k + 2) (v / 65536)
 
 pub length-put16 : (b : List ℕ) (k v : ℕ) → length (put16 b k v) ≡ length b
 unfolding put16
@@ -67,3 +71,29 @@ unfolding u16At
 u16-drop n b k =
     let e : n + (k + 1) ≡ n + k + 1 = omega arith in
     rw (getD-drop n b k 0, getD-drop n b (k + 1) 0, e)
+
+-- a u32 that was put is read back, and every byte but its four is as it was
+pub length-put32 : (b : List ℕ) (k v : ℕ) → length (put32 b k v) ≡ length b
+unfolding put32
+length-put32 b k v = length-put16 (put16 b k (v % 65536)) (k + 2) (v / 65536) ∙ length-put16 b k (v % 65536)
+
+pub byte-put32 : (b : List ℕ) (k v j : ℕ) → j ≢ k → j ≢ k + 1 → j ≢ k + 2 → j ≢ k + 3 → getD (put32 b k v) j 0 ≡ getD b j 0
+unfolding put32 put16
+byte-put32 b k v j n₀ n₁ n₂ n₃ =
+    let b₁ = set b k (v % 65536 % 256) in
+    let b₂ = set b₁ (k + 1) (v % 65536 / 256) in
+    let b₃ = set b₂ (k + 2) (v / 65536 % 256) in
+    getD-set-other b₃ (k + 2 + 1) j (v / 65536 / 256) 0 (omega arith)
+    ∙ getD-set-other b₂ (k + 2) j (v / 65536 % 256) 0 (omega arith)
+    ∙ getD-set-other b₁ (k + 1) j (v % 65536 / 256) 0 (omega arith)
+    ∙ getD-set-other b k j (v % 65536 % 256) 0 (omega arith)
+
+pub u32-put-same : (b : List ℕ) (k v : ℕ) → k + 3 < length b → v < 4294967296 → u32At (put32 b k v) k ≡ v
+unfolding u32At put32
+u32-put-same b k v h small =
+    let b₁ = put16 b k (v % 65536) in
+    let l = length-put16 b k (v % 65536) in
+    let low : u16At (put16 b₁ (k + 2) (v / 65536)) k ≡ v % 65536 =
+    u16-put-other b₁ (k + 2) k (v / 65536) (omega arith) (omega arith) (omega arith) ∙ u16-put-same b k (v % 65536) (omega arith) (omega arith) in
+    let high : u16At (put16 b₁ (k + 2) (v / 65536)) (k + 2) ≡ v / 65536 = u16-put-same b₁ (k + 2) (v / 65536) (omega arith) (omega arith) in
+    omega (arith, low, high)

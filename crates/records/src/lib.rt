@@ -5,7 +5,7 @@ ghost use lib.ListN.{length, getD, take, drop, replicate};
 ghost use lib.Seq.{paste};
 ghost use Rattle.texts.specs.Lists.{every};
 ghost use Rattle.texts.specs.Text.{is};
-ghost use Rattle.records.specs.Fields.{u16At, u32At, put16};
+ghost use Rattle.records.specs.Fields.{u16At, u32At, put16, put32};
 ghost use Rattle.records.specs.Laws.Zeros.{u64At};
 
 // The byte at k.
@@ -126,6 +126,15 @@ pub fn put_u16(s: &mut [u8], k: usize, v: u16)
 {
     s[k] = (v % 256) as u8;
     s[k + 1] = (v / 256) as u8;
+}
+
+// v at k, as four bytes.
+pub fn put_u32(s: &mut [u8], k: usize, v: u32)
+    requires { ⌜ k + 3 < length (now s) ⌝ }
+    ensures { λ _. ⌜ now (s .exit) ≡ put32 (now (s .entry)) k v ⌝ }
+{
+    put_u16(s, k, (v % 65536) as u16);
+    put_u16(s, k + 2, (v / 65536) as u16);
 }
 
 // All of src into dst from k on.

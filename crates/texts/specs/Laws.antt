@@ -3,3 +3,4 @@ pub mod Keys
 pub mod Same
 pub mod Largest
 pub mod Folding
+pub mod Mixed

@@ -8,6 +8,7 @@ ghost use Rattle.texts.specs.Choice.{bit};
 ghost use Rattle.texts.specs.Lists.{place};
 ghost use Rattle.texts.specs.Text.{folded, blank, is, same as equal, smaller as before, ascii, isWord, agree as agreeOf};
 ghost use Rattle.texts.specs.Laws.Largest.{larger as largerOf, largest as largestOf};
+ghost use Rattle.texts.specs.Laws.Mixed.{mixed as mixedOf};
 
 // A byte as a size.
 pub fn wide(b: u8) -> usize
@@ -171,4 +172,17 @@ pub fn agree(any: bool, a: u8, b: u8) -> bool
         return true;
     }
     b == 48
+}
+
+// The bytes of a string taken into a number, by which most strings are told apart.
+pub fn mixed(start: u16, s: &[u8]) -> u16
+    ensures { λ r. ⌜ r ≡ mixedOf start (now (s .entry)) ⌝ }
+{
+    let mut h = start as u32;
+    let mut i = 0;
+    while i < s.len() {
+        h = (31 * h + (s[i] as u32)) % 65536;
+        i += 1;
+    }
+    h as u16
 }

@@ -39,7 +39,7 @@ impl Call for CheckLexicon {
             Err(why) => (0, "no", [vec![why], amiss(lexicon)].concat()),
         };
         met.all(rows);
-        Ok(Told::new(Answer::accepted(kind, 0), row, vec![]).by_01())
+        Ok(Told::new(Answer::accepted(kind, 0), row, vec![]).by_papers())
     }
 
     fn lent<'a>(&self, lexicon: &'a Rc<Lexicon>) -> Vec<Part<'a>> {

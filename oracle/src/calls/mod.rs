@@ -29,5 +29,8 @@ calls! {
     new_sheet::NewSheet
     say_word::SayWord
     phone_string::PhoneString
+    read_settings::ReadSettings
+    write_setting::WriteSetting
+    settings_kept::SettingsKept
     lists::Lists
 }

@@ -32,7 +32,7 @@ impl Call for NewSheet {
     fn rule(&self, Input { sheet }: &Input, met: &mut Met) -> Ruling {
         met.refuse(2, !sheets::has_length(sheet.len()), || length(sheet.len()))?;
         met.all(before(sheet));
-        Ok(Told::new(Answer::accepted(0, 0), "new", vec![vec![0; ITEM]]).by_01())
+        Ok(Told::new(Answer::accepted(0, 0), "new", vec![vec![0; ITEM]]).by_papers())
     }
 
     fn lent<'a>(&self, Input { sheet }: &'a Input) -> Vec<Part<'a>> {

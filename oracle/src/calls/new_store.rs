@@ -33,7 +33,7 @@ impl Call for NewStore {
     fn rule(&self, Input { store }: &Input, met: &mut Met) -> Ruling {
         met.refuse(2, !stores::has_length(store.len()), || length(store.len()))?;
         met.all(before(store));
-        Ok(Told::new(Answer::accepted(0, 0), "new", vec![vec![0; SLOT]]).by_01())
+        Ok(Told::new(Answer::accepted(0, 0), "new", vec![vec![0; SLOT]]).by_papers())
     }
 
     fn lent<'a>(&self, Input { store }: &'a Input) -> Vec<Part<'a>> {

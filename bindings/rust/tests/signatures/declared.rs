@@ -1,27 +1,41 @@
-//! Reads exported functions, and the fields of their answer, out of the texts that declare them.
+//! Reads exported functions, and the fields of their answers, out of the texts that declare them.
 
-/// An exported function: a slice is a pointer and then a length.
+/// An exported function.
 #[derive(Debug, PartialEq, Eq)]
 pub struct Function {
     pub name: String,
-    pub slices: Vec<Slice>,
+    pub arguments: Vec<Argument>,
     pub answer: String,
 }
 
+/// A slice, which C gets as a pointer and then a length, or a number.
 #[derive(Debug, PartialEq, Eq)]
-pub struct Slice {
-    pub name: String,
-    pub written: bool,
+pub enum Argument {
+    Slice { name: String, written: bool },
+    Number { name: String, kind: &'static str },
 }
 
-/// The answer's fields in order, each with its bits.
-pub type Fields = Vec<(String, u32)>;
+/// An answer's fields in order, each with the kind of number that it is.
+pub type Fields = Vec<(String, &'static str)>;
 
 /// How one C argument is passed.
 enum Passed {
     Read,
     Written,
     Length,
+    Number(&'static str),
+}
+
+/// The kinds of numbers beside those of C.
+const NUMBERS: [(&str, &str); 4] =
+    [("u32", "uint32_t"), ("u64", "uint64_t"), ("i32", "int32_t"), ("f32", "float")];
+
+fn number_in_rust(kind: &str) -> Option<&'static str> {
+    NUMBERS.iter().find(|(rust, _)| *rust == kind).map(|(rust, _)| *rust)
+}
+
+fn number_in_c(kind: &str) -> Option<&'static str> {
+    NUMBERS.iter().find(|(_, c)| *c == kind).map(|(rust, _)| *rust)
 }
 
 /// The functions that Rattle source exports. `dat` is `data` elsewhere: the proof language reserves that
@@ -32,14 +46,18 @@ pub fn in_rattle(text: &str) -> Result<Vec<Function>, String> {
     heads
         .map(|head| {
             let (name, arguments, behind) = head_parts(head, "pub extern \"C\" fn ")?;
-            let slices = arguments.iter().map(|argument| match argument.split_once(": ") {
-                Some((slice, "&[u8]")) => Ok(slice_named(slice, false)),
-                Some((slice, "&mut [u8]")) => Ok(slice_named(slice, true)),
-                _ => Err(format!("{name}: {argument} is no slice of bytes")),
+            let arguments = arguments.iter().map(|argument| {
+                let (given, kind) = argument.split_once(": ").unwrap_or((argument, ""));
+                match (kind, number_in_rust(kind)) {
+                    ("&[u8]", _) => Ok(slice_named(given, false)),
+                    ("&mut [u8]", _) => Ok(slice_named(given, true)),
+                    (_, Some(kind)) => Ok(Argument::Number { name: given.into(), kind }),
+                    _ => Err(format!("{name}: {argument} is no slice of bytes and no number")),
+                }
             });
-            let slices = slices.collect::<Result<_, _>>()?;
+            let arguments = arguments.collect::<Result<_, _>>()?;
             let answer = answer_behind(name, behind)?;
-            Ok(Function { name: name.into(), slices, answer })
+            Ok(Function { name: name.into(), arguments, answer })
         })
         .collect()
 }
@@ -53,15 +71,19 @@ pub fn in_rust(text: &str) -> Result<Vec<Function>, String> {
     heads
         .map(|head| {
             let (name, arguments, behind) = head_parts(head, "fn ")?;
-            let passed = arguments.iter().map(|argument| match argument.split_once(": ") {
-                Some((given, "*const u8")) => Ok((given, Passed::Read)),
-                Some((given, "*mut u8")) => Ok((given, Passed::Written)),
-                Some((given, "usize")) => Ok((given, Passed::Length)),
-                _ => Err(format!("{name}: {argument} is no part of a slice")),
+            let passed = arguments.iter().map(|argument| {
+                let (given, kind) = argument.split_once(": ").unwrap_or((argument, ""));
+                match (kind, number_in_rust(kind)) {
+                    ("*const u8", _) => Ok((given, Passed::Read)),
+                    ("*mut u8", _) => Ok((given, Passed::Written)),
+                    ("usize", _) => Ok((given, Passed::Length)),
+                    (_, Some(kind)) => Ok((given, Passed::Number(kind))),
+                    _ => Err(format!("{name}: {argument} is no part of a slice and no number")),
+                }
             });
-            let slices = joined(name, passed.collect::<Result<_, _>>()?)?;
+            let arguments = joined(name, passed.collect::<Result<_, _>>()?)?;
             let answer = answer_behind(name, behind)?;
-            Ok(Function { name: name.into(), slices, answer })
+            Ok(Function { name: name.into(), arguments, answer })
         })
         .collect()
 }
@@ -78,49 +100,57 @@ pub fn in_c(text: &str) -> Result<Vec<Function>, String> {
             let passed = arguments.iter().map(|argument| {
                 let const_bytes = argument.strip_prefix("const uint8_t *");
                 let bytes = argument.strip_prefix("uint8_t *");
-                let length = argument.strip_prefix("size_t ");
-                match (const_bytes, bytes, length) {
-                    (Some(given), _, _) => Ok((given, Passed::Read)),
-                    (_, Some(given), _) => Ok((given, Passed::Written)),
-                    (_, _, Some(given)) => Ok((given, Passed::Length)),
-                    _ => Err(format!("{name}: {argument} is no part of a slice")),
+                let (kind, given) = argument.split_once(' ').unwrap_or((argument, ""));
+                match (const_bytes, bytes, kind, number_in_c(kind)) {
+                    (Some(given), _, _, _) => Ok((given, Passed::Read)),
+                    (_, Some(given), _, _) => Ok((given, Passed::Written)),
+                    (_, _, "size_t", _) => Ok((given, Passed::Length)),
+                    (_, _, _, Some(kind)) => Ok((given, Passed::Number(kind))),
+                    _ => Err(format!("{name}: {argument} is no part of a slice and no number")),
                 }
             });
-            let slices = joined(name, passed.collect::<Result<_, _>>()?)?;
-            let answer = answer.trim().replace("struct pronouncer_answer", "Answer");
-            Ok(Function { name: name.into(), slices, answer })
+            let arguments = joined(name, passed.collect::<Result<_, _>>()?)?;
+            let of_c = ANSWERS.iter().find(|(_, c)| answer.trim() == format!("struct {c}"));
+            let answer = of_c.map_or(answer.trim(), |(rust, _)| rust).into();
+            Ok(Function { name: name.into(), arguments, answer })
         })
         .collect()
 }
 
-/// The fields of `pub struct Answer`, in Rattle or in Rust, which must have C's layout.
-pub fn fields_in_rust(text: &str) -> Result<Fields, String> {
+/// The answers' names beside those of C.
+pub const ANSWERS: [(&str, &str); 2] =
+    [("Answer", "pronouncer_answer"), ("Settings", "pronouncer_settings")];
+
+/// The fields of an answer, in Rattle or in Rust, which must have C's layout.
+pub fn fields_in_rust(text: &str, answer: &str) -> Result<Fields, String> {
     let text = without_comments(text);
-    let (before, behind) = text.split_once("pub struct Answer {").ok_or("there is no Answer")?;
+    let opening = format!("pub struct {answer} {{");
+    let (before, behind) = text.split_once(&opening).ok_or(format!("there is no {answer}"))?;
     let attributes = before.rsplit('}').next().unwrap_or(before);
     if !attributes.contains("#[repr(C)]") {
-        return Err("Answer has not C's layout".into());
+        return Err(format!("{answer} has not C's layout"));
     }
     let body = behind.split('}').next().unwrap_or(behind);
     let rows = body.split(',').map(str::trim).filter(|row| !row.is_empty());
-    rows.map(|row| match row.strip_prefix("pub ").and_then(|row| row.split_once(": ")) {
-        Some((name, "u32")) => Ok((name.into(), 32)),
-        Some((name, "u64")) => Ok((name.into(), 64)),
-        _ => Err(format!("Answer: {row} is no u32 and no u64")),
+    rows.map(|row| {
+        let field = row.strip_prefix("pub ").and_then(|row| row.split_once(": "));
+        let field = field.and_then(|(name, kind)| Some((name.into(), number_in_rust(kind)?)));
+        field.ok_or(format!("{answer}: {row} is no number"))
     })
     .collect()
 }
 
-/// The fields of the header's `struct pronouncer_answer`.
-pub fn fields_in_c(text: &str) -> Result<Fields, String> {
+/// The fields of an answer of the header.
+pub fn fields_in_c(text: &str, answer: &str) -> Result<Fields, String> {
     let text = without_comments(text);
-    let (_, behind) = text.split_once("struct pronouncer_answer {").ok_or("there is no answer")?;
+    let opening = format!("struct {answer} {{");
+    let (_, behind) = text.split_once(&opening).ok_or(format!("there is no {answer}"))?;
     let body = behind.split('}').next().unwrap_or(behind);
     let rows = body.split(';').map(str::trim).filter(|row| !row.is_empty());
-    rows.map(|row| match row.split_once(' ') {
-        Some(("uint32_t", name)) => Ok((name.into(), 32)),
-        Some(("uint64_t", name)) => Ok((name.into(), 64)),
-        _ => Err(format!("struct pronouncer_answer: {row} is no uint32_t and no uint64_t")),
+    rows.map(|row| {
+        let field = row.split_once(' ');
+        let field = field.and_then(|(kind, name)| Some((name.into(), number_in_c(kind)?)));
+        field.ok_or(format!("struct {answer}: {row} is no number"))
     })
     .collect()
 }
@@ -147,24 +177,33 @@ pub fn differences(source: &[Function], place: &str, found: &[Function]) -> Vec<
     told
 }
 
-fn slice_named(name: &str, written: bool) -> Slice {
+fn slice_named(name: &str, written: bool) -> Argument {
     let name = if name == "dat" { "data" } else { name };
-    Slice { name: name.into(), written }
+    Argument::Slice { name: name.into(), written }
 }
 
-/// Pointers, each with its length behind it, as slices.
-fn joined(function: &str, passed: Vec<(&str, Passed)>) -> Result<Vec<Slice>, String> {
-    let pairs = passed.chunks(2).map(|pair| match pair {
-        [(name, kind), (length, Passed::Length)] if *length == format!("{name}_len") => {
-            match kind {
-                Passed::Read => Ok(slice_named(name, false)),
-                Passed::Written => Ok(slice_named(name, true)),
-                Passed::Length => Err(format!("{function}: {name} is a length without a pointer")),
+/// Pointers, each with its length behind it, as slices; numbers as they are.
+fn joined(function: &str, passed: Vec<(&str, Passed)>) -> Result<Vec<Argument>, String> {
+    let mut passed = passed.into_iter();
+    let mut arguments = Vec::new();
+    while let Some((name, how)) = passed.next() {
+        let written = match how {
+            Passed::Read => false,
+            Passed::Written => true,
+            Passed::Number(kind) => {
+                arguments.push(Argument::Number { name: name.into(), kind });
+                continue;
             }
+            Passed::Length => return Err(format!("{function}: {name} has no pointer before it")),
+        };
+        match passed.next() {
+            Some((length, Passed::Length)) if length == format!("{name}_len") => {
+                arguments.push(slice_named(name, written));
+            }
+            _ => return Err(format!("{function}: {name} has no length behind it")),
         }
-        _ => Err(format!("{function}: {} has no length behind it", pair[0].0)),
-    });
-    pairs.collect()
+    }
+    Ok(arguments)
 }
 
 /// A function's name, its arguments, and what stands behind them.

@@ -1,15 +1,17 @@
 //! Nothing checks a foreign declaration against the Rattle source. These tests compare each exported
-//! function's signature, the answer, the numbers and the sizes as the source, the header and this crate tell
+//! function's signature, the answers, the numbers and the sizes as the source, the header and this crate tell
 //! them.
 
 mod declared;
 
-use declared::{differences, fields_in_c, fields_in_rust, in_c, in_rattle, in_rust, Function};
-use pronouncer::{Refusal, Source};
+use declared::{
+    differences, fields_in_c, fields_in_rust, in_c, in_rattle, in_rust, Function, ANSWERS,
+};
+use pronouncer::{Refusal, Setting, Source};
 use std::fs;
 use std::path::Path;
 
-const CALLS: [&str; 13] = [
+const CALLS: [&str; 15] = [
     "check_lexicon",
     "lookup",
     "predict",
@@ -21,6 +23,8 @@ const CALLS: [&str; 13] = [
     "new_sheet",
     "say_word",
     "phone_string",
+    "read_settings",
+    "write_setting",
     "is_vowel",
     "split_stress",
 ];
@@ -70,11 +74,13 @@ fn signatures_are_the_sources() {
 }
 
 #[test]
-fn the_answer_is_the_sources() {
-    let source = fields_in_rust(&answers()).expect("the source's answer can be read");
-    assert_eq!(source.len(), 5);
-    assert_eq!(fields_in_c(&header()), Ok(source.clone()));
-    assert_eq!(fields_in_rust(&binding()), Ok(source));
+fn answers_are_the_sources() {
+    for ((answer, in_c), fields) in ANSWERS.into_iter().zip([5, 6]) {
+        let source = fields_in_rust(&answers(), answer).expect("the source's answer can be read");
+        assert_eq!(source.len(), fields);
+        assert_eq!(fields_in_c(&header(), in_c), Ok(source.clone()));
+        assert_eq!(fields_in_rust(&binding(), answer), Ok(source));
+    }
 }
 
 /// One alteration of a text, which must stand there.
@@ -105,7 +111,7 @@ const HEADER_ALTERED: &[(&str, &str, &str)] = &[
     (
         "uint8_t *sheet, size_t sheet_len);",
         "size_t sheet_len, uint8_t *sheet);",
-        "no length behind it",
+        "no pointer before it",
     ),
     ("size_t phone_len", "int phone_len", "no part of a slice"),
     (
@@ -116,6 +122,21 @@ const HEADER_ALTERED: &[(&str, &str, &str)] = &[
     (
         "struct pronouncer_answer pronouncer_new_store",
         "void pronouncer_new_store",
+        "the header has",
+    ),
+    (
+        "struct pronouncer_settings pronouncer_read_settings",
+        "struct pronouncer_answer pronouncer_read_settings",
+        "the header has",
+    ),
+    ("uint32_t version", "uint16_t version", "no number"),
+    ("uint32_t version,\n    float show", "float show,\n    uint32_t version", "the header has"),
+    ("float show", "double show", "no number"),
+    ("float show", "uint32_t show", "the header has"),
+    (",\n    float show", "", "the header has"),
+    (
+        "uint32_t kind,\n    uint32_t value);",
+        "uint32_t value,\n    uint32_t kind);",
         "the header has",
     ),
     ("pronouncer_is_vowel(", "pronouncer_is_a_vowel(", "the header lacks pronouncer_is_vowel"),
@@ -150,7 +171,12 @@ const BINDING_ALTERED: &[(&str, &str, &str)] = &[
     ("data: *const u8,", "data: *mut u8,", "the binding has"),
     ("out: *mut u8,", "out: *const u8,", "the binding has"),
     (WORD_AND_TAG, TAG_AND_WORD, "the binding has"),
-    ("marks_len: usize", "marks_len: u32", "no part of a slice"),
+    ("marks_len: usize", "marks_len: u32", "marks has no length behind it"),
+    ("marks_len: usize", "marks_len: u16", "no part of a slice"),
+    ("version: u32,\n        show: f32,", "show: f32,\n        version: u32,", "the binding has"),
+    ("show: f32", "show: f64", "no number"),
+    ("kind: u32,\n        value: u32,", "value: u32,\n        kind: u32,", "the binding has"),
+    (") -> Settings;", ") -> Answer;", "the binding has"),
     ("store_len: usize) -> Answer", "store_len: usize) -> u32", "the binding has"),
     ("store_len: usize) -> Answer", "store_len: usize)", "answers nothing"),
     ("pronouncer_new_sheet(", "pronouncer_newer_sheet(", "the binding lacks pronouncer_new_sheet"),
@@ -186,6 +212,8 @@ fn an_altered_source_is_told() {
             "pronouncer_new_store(store: &mut [u8]) -> Answer",
             "pronouncer_new_store(store: &mut [u8]) -> Count",
         ),
+        ("version: u32, show: f32", "version: u32, show: u32"),
+        ("version: u32, show: f32", "show: f32, version: u32"),
         ("fn pronouncer_new_sheet(", "fn pronouncer_next_sheet("),
         (
             "// a sheet\n",
@@ -201,22 +229,39 @@ fn an_altered_source_is_told() {
 
 #[test]
 fn an_altered_answer_is_told() {
-    let source = fields_in_rust(&answers());
-    for (from, to) in [
-        ("uint32_t kind;", "uint64_t kind;"),
-        ("uint64_t third;", ""),
-        ("uint64_t second;", "uint64_t other;"),
-        ("uint64_t value;", "int64_t value;"),
+    let [(answer, answer_in_c), (settings, settings_in_c)] = ANSWERS;
+    for (in_c, from, to) in [
+        (answer_in_c, "uint32_t kind;", "uint64_t kind;"),
+        (answer_in_c, "uint64_t third;", ""),
+        (answer_in_c, "uint64_t second;", "uint64_t other;"),
+        (answer_in_c, "uint64_t value;", "int64_t value;"),
+        (settings_in_c, "int32_t pitch;", "uint32_t pitch;"),
+        (settings_in_c, "float stretch;", "double stretch;"),
+        (settings_in_c, "int32_t level;", ""),
+        (settings_in_c, "float rack;", "float show;"),
     ] {
-        assert_ne!(fields_in_c(&altered(&header(), from, to)), source, "{to}");
+        let source = fields_in_c(&header(), in_c);
+        assert!(source.is_ok());
+        assert_ne!(fields_in_c(&altered(&header(), from, to), in_c), source, "{to}");
     }
-    for (from, to) in [
-        ("pub kind: u32,", "pub kind: u64,"),
-        ("pub third: u64,", ""),
-        ("#[repr(C)]", ""),
-        ("pub value: u64,\n    pub second: u64,", "pub second: u64,\n    pub value: u64,"),
+    let settings_alone = "#[derive(Clone, Copy)]\npub struct Settings";
+    for (name, from, to) in [
+        (answer, "pub kind: u32,", "pub kind: u64,"),
+        (answer, "pub third: u64,", ""),
+        (answer, "#[repr(C)]", ""),
+        (answer, "pub value: u64,\n    pub second: u64,", "pub second: u64,\n    pub value: u64,"),
+        (settings, "pub pitch: i32,", "pub pitch: u32,"),
+        (settings, "pub rack: f32,", ""),
+        (settings, &format!("#[repr(C)]\n{settings_alone}"), settings_alone),
+        (
+            settings,
+            "pub stretch: f32,\n    pub level: i32,",
+            "pub level: i32,\n    pub stretch: f32,",
+        ),
     ] {
-        assert_ne!(fields_in_rust(&altered(&binding(), from, to)), source, "{to}");
+        let source = fields_in_rust(&binding(), name);
+        assert!(source.is_ok());
+        assert_ne!(fields_in_rust(&altered(&binding(), from, to), name), source, "{to}");
     }
 }
 
@@ -236,31 +281,43 @@ fn constant(name: &str) -> String {
 fn same_number(kind: &str, case: &str, number: u32) {
     let row = format!("{kind}::{case} => {number},");
     assert!(answers().contains(&row), "the source lacks {row}");
+    same_in_header(case, number);
+}
+
+/// Sees that a case of an enum has this number in the header.
+fn same_in_header(case: &str, number: u32) {
     let row = format!("    PRONOUNCER_{} = {number}", constant(case));
-    let is_there = header().lines().any(|line| line.trim_end_matches(',').starts_with(&row));
-    assert!(is_there, "the header lacks {row}");
+    let lines = header();
+    let mut values = lines.lines().map(|line| line.split(['/', ',']).next().unwrap_or(line));
+    assert!(values.any(|line| line.trim_end() == row), "the header lacks {row}");
 }
 
 #[test]
 fn numbers_are_the_sources() {
     let refusals = [
-        Refusal::Section,
-        Refusal::Unsound,
-        Refusal::Text,
-        Refusal::Line,
-        Refusal::UnknownPhone,
-        Refusal::Damaged,
-        Refusal::Phones,
-        Refusal::Full,
-        Refusal::Short,
+        (Refusal::Section, 1),
+        (Refusal::Unsound, 2),
+        (Refusal::Text, 3),
+        (Refusal::Line, 4),
+        (Refusal::UnknownPhone, 5),
+        (Refusal::Damaged, 6),
+        (Refusal::Phones, 7),
+        (Refusal::Full, 8),
+        (Refusal::Short, 9),
+        (Refusal::Version, 15),
+        (Refusal::Records, 16),
+        (Refusal::Range, 17),
     ];
-    for (place, refusal) in refusals.iter().enumerate() {
-        assert_eq!(refusal.number() as usize, place + 1);
-        same_number("Refusal", &format!("{refusal:?}"), refusal.number());
+    for (refusal, number) in refusals {
+        assert_eq!(refusal.number(), number);
+        same_number("Refusal", &format!("{refusal:?}"), number);
     }
     assert_eq!(answers().matches("Refusal::").count(), refusals.len());
     for source in [Source::Runtime, Source::Addenda, Source::Compiled] {
         same_number("Source", &format!("{source:?}"), source.number());
+    }
+    for (setting, case) in [(Setting::Whole(0), "Whole"), (Setting::Real(0.0), "Real")] {
+        same_in_header(case, setting.kind());
     }
 }
 
@@ -269,8 +326,10 @@ fn sizes_are_the_headers() {
     let sizes = [
         ("SLOT_BYTES", pronouncer::SLOT_BYTES, 512),
         ("ITEM_BYTES", pronouncer::ITEM_BYTES, 64),
+        ("RECORD_BYTES", pronouncer::RECORD_BYTES, 32),
         ("CELL_BYTES", pronouncer::CELL_BYTES, 16),
         ("LARGEST_BYTES", pronouncer::LARGEST_BYTES, 65_536),
+        ("NAME_BYTES", pronouncer::NAME_BYTES, 15),
         ("WORD_BYTES", pronouncer::WORD_BYTES, 47),
         ("PHONE_BYTES", pronouncer::PHONE_BYTES, 15),
         ("ENTRY_PHONES", pronouncer::ENTRY_PHONES, 24),

@@ -1,9 +1,9 @@
 //! The compiled entries: the library decides whether they are whole and in order, and where not, the first at fault is
 //! looked for here.
 
+use commands::numbers::u32_at;
 use pronouncer::Lexicon;
 
-use crate::numbers::u32_at;
 use crate::report::{Detail, Fault, Kind, Place, Report};
 
 /// An entry: where it stands in lex.data, and its parts.

@@ -1,8 +1,8 @@
 //! The form of each section: the library decides it, and where one breaks, the byte is looked for here.
 
+use commands::numbers::u32_at;
 use pronouncer::{Letters, Lexicon, Refused, Sayable};
 
-use crate::numbers::u32_at;
 use crate::report::{Detail, Fault, Kind, Place, Report};
 
 /// The most phones of a table, and bytes of a phone.

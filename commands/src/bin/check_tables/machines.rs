@@ -1,7 +1,8 @@
 //! The machines of aswd.p and aswd.s: each cell leads to a state that its section has.
 
+use commands::numbers::u16_at;
+
 use crate::forms::{CELL, FRONT};
-use crate::numbers::u16_at;
 use crate::report::{Kind, Place, Report};
 
 /// The symbol in front of a word, and the one behind which no state is looked at.

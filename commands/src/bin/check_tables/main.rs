@@ -8,7 +8,6 @@ mod folder;
 mod forms;
 mod json;
 mod machines;
-mod numbers;
 mod phones;
 mod report;
 mod text;

@@ -1,9 +1,9 @@
 //! The phones of both tables: which of them are none of the 50, and which nobody uses.
 
+use commands::numbers::u32_at;
 use pronouncer::{split_stress, Lexicon, PhoneList, Refusal, Store, CELL_BYTES, SLOT_BYTES};
 
 use crate::entries::{self, Entry};
-use crate::numbers::u32_at;
 use crate::report::{Detail, Place, Report, User, Warning};
 use crate::trees::Leaf;
 

@@ -1,10 +1,10 @@
 //! The letter trees: every way through every tree ends in a leaf whose phone is there. No call of the library decides it,
 //! so every node is entered here; the library's own walks must agree.
 
+use commands::numbers::{u16_at, u32_at};
 use pronouncer::{Letters, Refusal, LIST_BYTES};
 
 use crate::forms::NODE;
-use crate::numbers::{u16_at, u32_at};
 use crate::report::{Kind, Place, Report, REPORT};
 
 const MODEL: &str = "lts.model";

@@ -3,12 +3,12 @@
 use std::fs;
 use std::path::Path;
 
-use commands::program::Fault;
+use commands::program::{quoted, Fault};
 use commands::refusals;
 use pronouncer::{Lexicon, PhoneList, Refusal, Refused, Store};
 use pronouncer::{LARGEST_BYTES, LIST_BYTES, SLOT_BYTES, WORD_BYTES};
 
-use crate::words::{fields, quoted};
+use crate::words::fields;
 
 /// What stands at the front of a text that was saved as UTF-8 with a mark.
 const BYTE_ORDER_MARK: &[u8] = b"\xef\xbb\xbf";

@@ -1,8 +1,9 @@
 //! What is doubtful about a word that was said from its letters, and what to do.
 
+use commands::program::quoted;
+
 use crate::desk::{Desk, Said, Word};
 use crate::plain;
-use crate::words::quoted;
 
 /// The first warning that applies.
 pub fn of(desk: &Desk, word: &Word, said: &Said) -> Option<String> {

@@ -61,8 +61,3 @@ fn said(desk: &Desk, text: &[u8], out: &mut dyn Write) -> Result<Status, Fault> 
 pub fn fields(text: &[u8]) -> impl Iterator<Item = &[u8]> {
     text.split(|byte| matches!(byte, 9..=13 | b' ')).filter(|field| !field.is_empty())
 }
-
-/// A word or a phone in a sentence.
-pub fn quoted(text: &[u8]) -> String {
-    format!("\"{}\"", String::from_utf8_lossy(text))
-}

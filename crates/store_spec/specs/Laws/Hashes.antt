@@ -14,16 +14,12 @@ use borrow.Author.Tests.{eq-eqb, ne-eqb}
 use Rattle.texts.specs.Choice.{is-false, never}
 use Rattle.texts.specs.Lists.{some}
 use Rattle.texts.specs.Text.{is}
+use Rattle.texts.specs.Laws.Mixed.{mixed}
 use Rattle.records.specs.Records.{front-byte}
 use Rattle.records.specs.Chain.{chain, chain-turn}
 use Rattle.slots_spec.specs.Slot.{Entry}
 use Rattle.store_spec.specs.Store.{entryAt, sameKey}
 use Rattle.store_spec.specs.Laws.Keys.{key-true, either-false}
-
--- the bytes of a word taken into a number
-unfoldable pub mixed : ℕ → List ℕ → ℕ
-mixed h [] = h
-mixed h (x ∷ xs) = mixed ((31 * h + x) % 65536) xs
 
 -- the hash of an entry's key
 unfoldable pub hashOf : Entry → ℕ
@@ -32,14 +28,6 @@ hashOf e = mixed (e .tag) (e .word)
 -- that of the entry in slot n
 unfoldable pub hashAt : List ℕ → ℕ → ℕ
 hashAt b n = hashOf (entryAt b n)
-
-pub mixed-turn : (h : ℕ) (w : List ℕ) (i : ℕ) → i < length w → mixed h (drop i w) ≡ mixed ((31 * h + getD w i 0) % 65536) (drop (i + 1) w)
-unfolding mixed
-mixed-turn h w i l = rw (drop-cons w i 0 l, add-one)
-
-pub mixed-end : (h : ℕ) (w : List ℕ) (i : ℕ) → length w ≤ i → mixed h (drop i w) ≡ h
-unfolding mixed
-mixed-end h w i l = rw (drop-of-length-le w l)
 
 same-hash : (a b : Entry) → sameKey a b ≡ true → hashOf b ≡ hashOf a
 unfolding hashOf
