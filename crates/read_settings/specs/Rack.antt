@@ -95,16 +95,20 @@ rack-range x y h k =
     let xd = down (a .exponent) in
     let yd = down (b .exponent) in
     let d : 0 < xd * yd = mul-pos (down-pos (a .exponent)) (down-pos (b .exponent)) in
-    let lo : T (le (round binary32 false 1 16) (round binary32 false (xn * yn) (xd * yd))) = round-mono binary32 1 16 (xn * yn) (xd * yd) (omega arith) d (both-least xn yn xd yd (a .least) (b .least)) in
-    let hi : T (le (round binary32 false (xn * yn) (xd * yd)) (round binary32 false 16 1)) = round-mono binary32 (xn * yn) (xd * yd) 16 1 d (omega arith) (both-most xn yn xd yd (a .most) (b .most)) in
-    rw (a .is, b .is) (subst (λ (z : Float). T (le z (round binary32 false (xn * yn) (xd * yd)))) sixteenth-is lo, subst (λ (z : Float). T (le (round binary32 false (xn * yn) (xd * yd)) z)) sixteen-is hi)
+    let product = round binary32 false (xn * yn) (xd * yd) in
+    let lo : T (le (round binary32 false 1 16) product) =
+    round-mono binary32 1 16 (xn * yn) (xd * yd) (omega arith) d (both-least xn yn xd yd (a .least) (b .least)) in
+    let hi : T (le product (round binary32 false 16 1)) =
+    round-mono binary32 (xn * yn) (xd * yd) 16 1 d (omega arith) (both-most xn yn xd yd (a .most) (b .most)) in
+    rw (a .is, b .is) (subst (λ (z : Float). T (le z product)) sixteenth-is lo, subst (λ (z : Float). T (le product z)) sixteen-is hi)
 
 -- so the rack's stretch is that of every accepted read
 fit-stretch : (s : Setting) → fits Stretch s ≡ true → isStretch (realIn s) ≡ true
 fit-stretch (Whole n) h = never false h refl
 fit-stretch (Real x) h = h
 
-pub rack-told : (v : ℕ) (b : List ℕ) (show : Float) → allFit v b ≡ true → isStretch show ≡ true → T (le sixteenth (rackOf b show)) × T (le (rackOf b show) sixteen)
+pub rack-told : (v : ℕ) (b : List ℕ) (show : Float) → allFit v b ≡ true → isStretch show ≡ true
+    → T (le sixteenth (rackOf b show)) × T (le (rackOf b show) sixteen)
 unfolding allFit rackOf
 rack-told v b show a h =
     let s = both-true (fits Pitch (pitchOf b) && fits Stretch (stretchOf b)) (not (eqb v 2) || fits Level (levelOf b)) a in

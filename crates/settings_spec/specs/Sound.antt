@@ -37,7 +37,8 @@ pub record Sound (b : List ℕ) : Type 0 where
   pub names : distinct (map (nameAt b) chained) ≡ true
 
 -- the walk finds such a chain
-pub walked : (b : List ℕ) (n p : ℕ) → walks b n p ≡ true → Linked (next b) p (chain (next b) n p) × All (λ (i : ℕ). isRecord b i ≡ true) (chain (next b) n p)
+pub walked : (b : List ℕ) (n p : ℕ) → walks b n p ≡ true
+    → Linked (next b) p (chain (next b) n p) × All (λ (i : ℕ). isRecord b i ≡ true) (chain (next b) n p)
 unfolding walks chain
 walked b zero p h = (eqb-true (next b p) 0 h, tt)
 walked b (suc n) p h =
@@ -49,7 +50,8 @@ walked b (suc n) p h =
     rw e ((refl, eqb-false (next b p) 0 e, ih .0), (s .0, ih .1)))
 
 -- and every such chain is walked
-walks-linked : (b : List ℕ) (n p : ℕ) (xs : List ℕ) → Linked (next b) p xs → All (λ (i : ℕ). isRecord b i ≡ true) xs → length xs ≤ n → walks b n p ≡ true
+walks-linked : (b : List ℕ) (n p : ℕ) (xs : List ℕ) → Linked (next b) p xs → All (λ (i : ℕ). isRecord b i ≡ true) xs → length xs ≤ n
+    → walks b n p ≡ true
 unfolding walks
 walks-linked b zero p [] l a h = eq-eqb (next b p) 0 l
 walks-linked b (suc n) p [] l a h = rw (eq-eqb (next b p) 0 l)

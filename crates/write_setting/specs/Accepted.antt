@@ -100,7 +100,8 @@ module _ (v : ℕ) (b name : List ℕ) (kind bits : ℕ) (h : eqb (writeSetting 
       let k = kind-of (knownAs v name) (kindAt b i) (u32At b (valueAt i)) bits (present v b name (a .known) (a .there) (a .fit)) in
       rw left (written-here b name bits missing (a .sound) (a .there) small ∙ k ∙ sym (kind-of (knownAs v name) kind bits bits (a .right)))
 
-  pub accepted-other : (other : List ℕ) (missing : Setting) → other ≢ name → valueOf (givenAfter v b name kind bits) other missing ≡ valueOf b other missing
+  pub accepted-other : (other : List ℕ) (missing : Setting) → other ≢ name
+      → valueOf (givenAfter v b name kind bits) other missing ≡ valueOf b other missing
   unfolding recordOf
   accepted-other other missing n =
       let a = allowed v b name (settingOf kind bits) h in

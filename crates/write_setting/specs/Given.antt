@@ -39,7 +39,9 @@ allowed v b name value h =
     (λ a.
     let x = both-true (isKnown (knownAs v name)) (not (eqb (recordOf b name) 0)) k in
     let y = both-true (allFit v b) (fits (knownAs v name) value) a in
-    record { sound = sound-checked v b (eqb-true (storeRefusal v b) 0 e); known = x .0; there = eqb-false (recordOf b name) 0 (not-true (eqb (recordOf b name) 0) (x .1)); fit = y .0; right = y .1 })
+    let s = sound-checked v b (eqb-true (storeRefusal v b) 0 e) in
+    let r = eqb-false (recordOf b name) 0 (not-true (eqb (recordOf b name) 0) (x .1)) in
+    record { sound = s; known = x .0; there = r; fit = y .0; right = y .1 })
     (λ a. let z : false ≡ true = rw (e, k, a) at h in never false z refl))
     (λ k. let z : false ≡ true = rw (e, k) at h in never false z refl))
     (λ e. let z : eqb (storeRefusal v b) 0 ≡ true = rw e at h in never (eqb (storeRefusal v b) 0) z e)

@@ -48,7 +48,8 @@ module _ (b table : List ℕ) where
     sought-free zero k h e = absurd (not-suc-le-zero h)
     sought-free (suc n) k h e = rw (eq-eqb (getD table k 0) 0 e)
 
-    pub sought-hit : (left k : ℕ) → 0 < left → getD table k 0 ≢ 0 → same name (nameAt b (getD table k 0)) ≡ true → sought b table name left k ≡ getD table k 0
+    pub sought-hit : (left k : ℕ) → 0 < left → getD table k 0 ≢ 0 → same name (nameAt b (getD table k 0)) ≡ true
+        → sought b table name left k ≡ getD table k 0
     unfolding sought
     sought-hit zero k h n t = absurd (not-suc-le-zero h)
     sought-hit (suc left) k h n t = rw (ne-eqb (getD table k 0) 0 n, t)
@@ -82,7 +83,8 @@ module _ (b table : List ℕ) where
   lost-end left p h = ap (firstLost b table) (chain-end (next b) left p h)
 
   -- records that are given back for their names: two of one name would be one record
-  none-named : (i : ℕ) (is : List ℕ) → given b table (nameAt b i) ≡ i → All (λ (j : ℕ). i ≢ j) is → All (λ (j : ℕ). j ≢ 0) is → firstLost b table is ≡ 0
+  none-named : (i : ℕ) (is : List ℕ) → given b table (nameAt b i) ≡ i → All (λ (j : ℕ). i ≢ j) is → All (λ (j : ℕ). j ≢ 0) is
+      → firstLost b table is ≡ 0
       → some (same (nameAt b i)) (map (nameAt b) is) ≡ false
   unfolding firstLost some
   none-named i [] g d r l = refl
@@ -107,7 +109,8 @@ module _ (b table : List ℕ) where
       rw (none-named i is k (d .0) (r .1) m) (apart is (d .1) (r .1) m))
       (λ e. let z : i ≡ 0 = rw e at l in absurd (r .0 z))
 
-  pub none-lost : (n : ℕ) → walks b n 0 ≡ true → firstLost b table (chain (next b) n 0) ≡ 0 → distinct (map (nameAt b) (chain (next b) n 0)) ≡ true
+  pub none-lost : (n : ℕ) → walks b n 0 ≡ true → firstLost b table (chain (next b) n 0) ≡ 0
+      → distinct (map (nameAt b) (chain (next b) n 0)) ≡ true
   none-lost n w l =
       let xs = chain (next b) n 0 in
       apart xs (once (next b) 0 xs (walked b n 0 w .0) .1) (chain-real b n 0) l
@@ -142,7 +145,8 @@ module _ (b table : List ℕ) where
       let s : some (same (nameAt b j)) (map (nameAt b) js) ≡ true = rw (← e) (has-name i js m) in
       rw s)
       (λ t.
-      let d : eqb i j ≡ false = is-false (eqb i j) (λ z. never (same (nameAt b i) (nameAt b j)) (eq-same (nameAt b i) (nameAt b j) (ap (nameAt b) (eqb-true i j z))) t) in
+      let u : eqb i j ≡ true → same (nameAt b i) (nameAt b j) ≡ true = (λ z. eq-same (nameAt b i) (nameAt b j) (ap (nameAt b) (eqb-true i j z))) in
+      let d : eqb i j ≡ false = is-false (eqb i j) (λ z. never (same (nameAt b i) (nameAt b j)) (u z) t) in
       let m : some (eqb i) js ≡ true = rw d at h in
       let o : named b (nameAt b i) js ≢ i = rw t at n in
       cases (some (same (nameAt b j)) (map (nameAt b) js)) (λ s. rw s) (λ s. rw s (twice i js m o)))

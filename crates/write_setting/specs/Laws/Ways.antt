@@ -22,7 +22,8 @@ module _ (v : ℕ) (b name : List ℕ) (value : Setting) (c : List ℕ) where
   unfolding writtenIf
   not-known k = (rw k, rw k)
 
-  pub no-record : isKnown (knownAs v name) ≡ true → recordOf b name ≡ 0 → (refused 16 0 ≡ writtenIf v b name value) × (b ≡ written (writtenIf v b name value) b c)
+  pub no-record : isKnown (knownAs v name) ≡ true → recordOf b name ≡ 0
+      → (refused 16 0 ≡ writtenIf v b name value) × (b ≡ written (writtenIf v b name value) b c)
   unfolding writtenIf
   no-record k r = let e = eq-eqb (recordOf b name) 0 r in (rw (k, e), rw (k, e))
 
@@ -31,11 +32,13 @@ module _ (v : ℕ) (b name : List ℕ) (value : Setting) (c : List ℕ) where
     unfolding writtenIf
     unfit a = let e = ne-eqb (recordOf b name) 0 r in (rw (k, e, a), rw (k, e, a))
 
-    pub wrong : allFit v b ≡ true → fits (knownAs v name) value ≡ false → (refused 17 0 ≡ writtenIf v b name value) × (b ≡ written (writtenIf v b name value) b c)
+    pub wrong : allFit v b ≡ true → fits (knownAs v name) value ≡ false
+        → (refused 17 0 ≡ writtenIf v b name value) × (b ≡ written (writtenIf v b name value) b c)
     unfolding writtenIf
     wrong a f = let e = ne-eqb (recordOf b name) 0 r in (rw (k, e, a, f), rw (k, e, a, f))
 
-    pub right : allFit v b ≡ true → fits (knownAs v name) value ≡ true → (accepted 0 0 ≡ writtenIf v b name value) × (c ≡ written (writtenIf v b name value) b c)
+    pub right : allFit v b ≡ true → fits (knownAs v name) value ≡ true
+        → (accepted 0 0 ≡ writtenIf v b name value) × (c ≡ written (writtenIf v b name value) b c)
     unfolding writtenIf
     right a f = let e = ne-eqb (recordOf b name) 0 r in (rw (k, e, a, f), rw (k, e, a, f))
 
