@@ -1,5 +1,5 @@
-/* Adds a name, says it and a letter, and prints the phones; then sets a rack's pitch, and prints its
- * settings. At the top of the repository:
+/* Adds a name, says it and a word of which only a letter is read, and prints the phones; then sets a
+ * rack's pitch, and prints its settings. At the top of the repository:
  *   cc -std=c99 -Ibindings/c bindings/c/example.c target/staticlib/libpronouncer.a -o target/example
  */
 #include "pronouncer.h"
@@ -33,13 +33,19 @@ static int refused(const char *call, struct pronouncer_answer answer)
     return 1;
 }
 
-static struct pronouncer_answer say(const uint8_t *store, uint8_t *sheet, const char *word)
+/* Says a word, and prints what was read of it where that is not all. Whether it was refused. */
+static int say(const uint8_t *store, uint8_t *sheet, const char *word)
 {
-    return pronouncer_say_word(
+    struct pronouncer_answer answer = pronouncer_say_word(
         BYTES(lex_phones), BYTES(lex_index), BYTES(lex_data),
         BYTES(lts_phones), lts_index, sizeof lts_index, BYTES(lts_model),
         store, STORE_BYTES, sheet, SHEET_BYTES,
         (const uint8_t *)word, strlen(word), BYTES(""));
+    if (refused("say_word", answer))
+        return 1;
+    if (answer.second > 0)
+        printf("%s: only \"%s\" was read\n", word, word + answer.second);
+    return 0;
 }
 
 int main(void)
@@ -56,9 +62,7 @@ int main(void)
     answer = pronouncer_add_entries(
         BYTES(lex_phones), store, sizeof store, spare, sizeof spare,
         BYTES("# names of tonight\ntormentor n : t ao r m eh n t er\n"));
-    if (refused("add_entries", answer) ||
-        refused("say_word", say(store, sheet, "Tormentor")) ||
-        refused("say_word", say(store, sheet, "k")))
+    if (refused("add_entries", answer) || say(store, sheet, "Tormentor") || say(store, sheet, "tempo#k"))
         return 1;
 
     answer = pronouncer_phone_string(sheet, sizeof sheet, out, sizeof out);

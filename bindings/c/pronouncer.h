@@ -106,7 +106,7 @@ struct pronouncer_answer {
     uint32_t refusal; /* an enum pronouncer_refusal; 0 if the call was accepted */
     uint32_t kind;    /* a source, or 1 for yes and 0 for no, where the call says so; else 0 */
     uint64_t value;   /* a count, where the call says so; of a refusal the faulty line; else 0 */
-    uint64_t second;  /* 0 */
+    uint64_t second;  /* the place where letters stopped, where the call says so; else 0 */
     uint64_t third;   /* 0 */
 };
 
@@ -160,11 +160,14 @@ struct pronouncer_answer pronouncer_lookup(
     const uint8_t *tag, size_t tag_len,
     uint8_t *out, size_t out_len);
 
-/* Tells a word's phones from its letters: those behind its last "#", capitals as small letters.
+/* Tells a word's phones from its letters: those behind its last "#", capitals as small letters. The
+ * bytes before it are still neighbours of the first letters, so "tempo#two" may have other phones than
+ * "two".
  *
  * phones, index, model: lts.phones, lts.index, lts.model. word. out: room for the phones, which are
  * 94 at most.
- * Answer: value is the count of phones.
+ * Answer: value is the count of phones; second is the place just after the last "#" in the word as
+ * given, counted from 0 (6 in "tempo#two"), or 0 if there is none.
  * Refusals:
  *   1  a section breaks its form
  *   3  the word is over 47 bytes or has a byte of 128 or more
@@ -289,6 +292,8 @@ struct pronouncer_answer pronouncer_new_sheet(uint8_t *sheet, size_t sheet_len);
  *
  * phones, index, data: lex.phones, lex.index, lex.data. sounds, starts, model: lts.phones,
  * lts.index, lts.model. store: a sound store. sheet: a sound sheet. word, tag.
+ * Answer: second is that of pronouncer_predict, or 0 where the letters were not read: a word that
+ * pronouncer_lookup finds has 0 although it holds "#", as "#" itself does.
  * Refusals:
  *   1  one of the six sections breaks its form
  *   2  store or sheet has a wrong length or is not sound

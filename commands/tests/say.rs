@@ -58,11 +58,15 @@ fn words_of_every_source() {
         , (addenda): no phones\n\
         xylophone (letters): 1 z ay | 0 l ax | 1 f ow n\n\
         tempo#two (letters): 1 t ow\n";
-    let err = format!(
-        "warning: \"tempo#two\" was read without \"tempo#\": write that as it is spoken, or add an entry (--entries)\n\
-         {long} {TEXT_REFUSED}café {TEXT_REFUSED}"
-    );
+    let err = format!("{}{long} {TEXT_REFUSED}café {TEXT_REFUSED}", only_read("tempo#two", "two"));
     assert_eq!(said, ended(1, out, &err));
+}
+
+const ALL_SPOKEN: &str = "write it all as it is spoken, without \"#\"";
+
+/// The warning of a word with "#" whose letters behind it gave phones.
+fn only_read(word: &str, letters: &str) -> String {
+    format!("warning: \"{word}\": only \"{letters}\" was read, which stands behind the last \"#\": {ALL_SPOKEN}\n")
 }
 
 #[test]
@@ -192,6 +196,8 @@ fn refused_entries_name_the_place() {
             &format!("line 1 is refused: 3, \"{long}y\" has more than 47 bytes. Shorten it.")),
         ("colon", "# names\niris n ay1 r ih0 s\n".into(),
             "line 2 is refused: 4, a line has no colon, or no word before it. Write: word tag : phones"),
+        ("hash", "\"tempo#two\" n : t uw1\n".into(),
+            "line 1 is refused: 4, a line has no colon, or no word before it. Write: word tag : phones"),
         ("phone", "iris n : ay1 r ih9 s # ih0\n".into(),
             "line 1 is refused: 5, the phone \"ih9\" is in neither lex.phones nor the 50 known phones. Correct its spelling."),
         ("long_phone", "iris n : ay1 rrrrrrrrrrrrrrrr s\n".into(),
@@ -249,6 +255,68 @@ fn words_as_a_desk_types_them_are_warned_of() {
         let out = format!("{word} (letters): {out}\n");
         assert_eq!(say(&[word]), ended(0, &out, &format!("warning: {warning}\n")));
     }
+}
+
+#[test]
+fn what_was_read_of_a_word_with_a_hash_is_told() {
+    for (word, out, letters) in [
+        ("tempo#two", "1 t ow", "two"),
+        ("Tempo#Two/n", "1 t ow", "Two"),
+        ("a#b#c", "0 k", "c"),
+        ("tempo#zrt", "0 z r t", "zrt"),
+        ("##tempo#it's", "1 ih t s", "it's"),
+    ] {
+        let out = format!("{word} (letters): {out}\n");
+        assert_eq!(say(&[word]), ended(0, &out, &only_read(word, letters)));
+    }
+    for (word, out, warning) in [
+        ("tempo#t2", "0 t", "only \"t2\" was read, which stands behind the last \"#\", and that without \"2\": write it all as it is spoken, without \"#\""),
+        ("#two", "1 t ow", "only \"two\" was read, which stands behind the last \"#\": type \"two\", which is in the lexicon, or use --plain"),
+    ] {
+        let out = format!("{word} (letters): {out}\n");
+        assert_eq!(say(&[word]), ended(0, &out, &format!("warning: \"{word}\": {warning}\n")));
+    }
+}
+
+#[test]
+fn why_a_word_with_a_hash_has_no_phones_is_told() {
+    let nothing = "only what stands behind the last \"#\" is read";
+    for (word, why, cure) in [
+        ("tempo#", nothing, ALL_SPOKEN),
+        ("##", nothing, ALL_SPOKEN),
+        ("#/v", nothing, ALL_SPOKEN),
+        ("tempo#12", "only \"12\" was read, which stands behind the last \"#\"", ALL_SPOKEN),
+        ("a#", nothing, "type \"a\", which is in the lexicon, or use --plain"),
+    ] {
+        let out = format!("{word} (letters): no phones\n");
+        let err = format!("warning: nothing in \"{word}\" gave a phone, as {why}: {cure}\n");
+        assert_eq!(say(&[word]), ended(1, &out, &err));
+    }
+}
+
+#[test]
+fn a_plain_word_with_a_hash_is_warned_of_as_it_was_asked() {
+    let (asked, err) = ("-> tempo#two (letters): 1 t ow\n", only_read("tempo#two", "two"));
+    let out = format!("(Tempo#Two) {asked}");
+    assert_eq!(say(&["--plain", "(Tempo#Two)"]), ended(0, &out, &err));
+    let out = format!("tempo#two's {asked}tempo#two's -> 's (addenda): 0 z\n");
+    assert_eq!(say(&["--plain", "tempo#two's"]), ended(0, &out, &err));
+    let out = "#Two -> two (compiled): 1 t uw\ntempo# -> tempo (letters): 1 t eh m | 0 p ow\n";
+    assert_eq!(say(&["--plain", "#Two", "tempo#"]), ended(0, out, ""));
+}
+
+#[test]
+fn a_word_with_a_hash_that_is_found_is_not_warned_of() {
+    let out = "# (addenda): 1 hh ae sh\n#/n (addenda): 1 hh ae sh\n";
+    assert_eq!(say(&["#", "#/n"]), ended(0, out, ""));
+
+    // The first entry, 'd, becomes #d.
+    let mut data = fs::read(english().join("lex.data")).expect("the section is there");
+    assert_eq!(data[1..4], *b"\x02'd");
+    data[2] = b'#';
+    let tables = altered("a_word_with_a_hash_that_is_found", &[("lex.data", &data)]);
+    let arguments = ["--tables".into(), tables, "#d".into()];
+    assert_eq!(run(SAY, &arguments, ""), ended(0, "#d (compiled): 0 d\n", ""));
 }
 
 #[test]

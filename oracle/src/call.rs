@@ -31,12 +31,14 @@ pub struct Told {
     pub need: usize,
     /// Whether the original was asked.
     pub asked: bool,
+    /// Rows that count where the output is too short.
+    pub short: Vec<&'static str>,
 }
 
 impl Told {
     pub fn new(answer: Answer, row: &'static str, written: Vec<Vec<u8>>) -> Told {
         let need = written.first().map_or(0, Vec::len);
-        Told { answer, row, written, need, asked: true }
+        Told { answer, row, written, need, asked: true, short: vec![] }
     }
 
     fn refused(refusal: u32, need: usize) -> Told {
@@ -197,6 +199,7 @@ fn fitting<C: Call>(mut told: Told, parts: &[Part], met: &mut Met) -> Told {
     };
     if len < need {
         *met = Met::default();
+        met.all(told.short);
         told = Told { asked: told.asked, ..Told::refused(9, need) };
     }
     met.shared(row);

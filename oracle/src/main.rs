@@ -20,6 +20,7 @@ mod machines;
 mod notation;
 mod ours;
 mod phones;
+mod places;
 mod prelude;
 mod random;
 mod record;

@@ -63,6 +63,16 @@ pub fn line(name: &str, parts: &[Part], handed: &[Vec<u8>], front: &[String]) ->
     words.join(" ")
 }
 
+/// The value of an answer; behind it the numbers that follow, where they are told.
+pub fn value(answer: Answer) -> String {
+    let Answer { value, second, third, .. } = answer;
+    match (second, third) {
+        (0, 0) => value.to_string(),
+        (_, 0) => format!("{value}:{second}"),
+        _ => format!("{value}:{second}:{third}"),
+    }
+}
+
 /// Any bytes.
 pub fn bytes(bytes: &[u8]) -> String {
     or_dot(pieces(bytes))

@@ -19,13 +19,18 @@ impl Answer {
         Answer { refusal: 0, kind, value: value as u64, second: 0, third: 0 }
     }
 
+    /// The same with a second number.
+    pub fn and(self, second: usize) -> Answer {
+        Answer { second: second as u64, ..self }
+    }
+
     /// A refusal; its line is 0 except in add_entries.
     pub fn refused(refusal: u32, line: usize) -> Answer {
         Answer { refusal, ..Answer::accepted(0, line) }
     }
 }
 
-/// All numbers; the last two, which no call tells, where they are told.
+/// All numbers; the last two where they are told.
 impl fmt::Display for Answer {
     fn fmt(&self, f: &mut fmt::Formatter) -> fmt::Result {
         let Answer { refusal, kind, value, second, third } = self;

@@ -18,7 +18,7 @@ pub(crate) use crate::shrink::{with, Shrink};
 pub(crate) use crate::stores::{self, Entry, MOST_PHONES, SLOT};
 pub(crate) use crate::trees::Trees;
 pub(crate) use crate::words::{self, Wanted};
-pub(crate) use crate::{lexicon_edges, lexicon_shapes, lines, sheet_edges, sheet_shapes};
+pub(crate) use crate::{lexicon_edges, lexicon_shapes, lines, places, sheet_edges, sheet_shapes};
 pub(crate) use crate::{settings, settings_edges, settings_met, settings_shapes};
 pub(crate) use crate::{spoken, store_edges, store_shapes, tree_edges, tree_shapes};
 pub(crate) use original::lexicon::LexiconError;

@@ -68,7 +68,8 @@ pub fn case<C: Call>(call: &C, input: &C::Input, front: &[String]) -> (String, E
     let expected = call.expected(input);
     let shown = notation::line(C::NAME, &call.lent(input), &expected.handed, front);
     let outcome = expected.outcome.as_ref().expect("the original answers");
-    let Answer { refusal, kind, value, .. } = outcome.answer;
+    let Answer { refusal, kind, .. } = outcome.answer;
+    let value = notation::value(outcome.answer);
     let answered = expected.asked && (refusal == 0 || C::ERRORS.contains(&refusal));
     assert!(answered, "only what the original answers is recorded");
     (format!("{shown} -> {refusal} {kind} {value}"), expected)

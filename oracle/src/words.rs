@@ -167,6 +167,16 @@ pub fn edges() -> Vec<Vec<u8>> {
     words
 }
 
+/// Words of the most bytes with one "#" or two, at every place.
+pub fn marked() -> Vec<Vec<u8>> {
+    let letters: Vec<u8> = b"aB".iter().cycle().take(LONGEST).copied().collect();
+    each! {
+        for last in 0..LONGEST;
+        let word = records::with_byte(&letters, last, b'#');
+        (0..=last).map(|first| records::with_byte(&word, first, b'#'))
+    }
+}
+
 /// Words at 01's limits without a tag, and some words with tags at them.
 pub fn limits(words: &[&str]) -> Vec<Wanted> {
     let without = edges().into_iter().map(|word| Wanted::new(word, ""));

@@ -26,8 +26,12 @@ fn say(lexicon: &Lexicon, letters: &Letters, words: &[String]) -> Result<(), Box
     let store = Store::new_store(&mut slots)?;
     let mut sheet = Sheet::new_sheet(&mut items)?;
     for word in words {
-        if let Err(refused) = sheet.say_word(lexicon, letters, &store, word, "") {
-            eprintln!("{word}: {refused}");
+        match sheet.say_word(lexicon, letters, &store, word, "") {
+            Ok(said) if said.place() > 0 => {
+                eprintln!("{word}: only \"{}\" was read", &word[said.place()..]);
+            }
+            Ok(_) => {}
+            Err(refused) => eprintln!("{word}: {refused}"),
         }
     }
     for word in &sheet {

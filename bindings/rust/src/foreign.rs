@@ -9,7 +9,7 @@ use crate::refusal::{Refusal, Refused};
 /// What every call gives back, but for `pronouncer_read_settings`.
 #[repr(C)]
 #[derive(Clone, Copy)]
-#[allow(dead_code)] // the last two fields are 0 in every answer
+#[allow(dead_code)] // the last field is 0 in every answer
 pub struct Answer {
     pub refusal: u32,
     pub kind: u32,
@@ -33,6 +33,11 @@ impl Answer {
 
     pub fn count(self) -> usize {
         self.value as usize
+    }
+
+    /// Where the letters stopped, in an answer of predict or of say_word.
+    pub fn place(self) -> usize {
+        self.second as usize
     }
 }
 

@@ -82,9 +82,9 @@ mod unsound;
 pub use entries::{Entries, Entry};
 pub use phones::{is_vowel, split_stress, ListedPhones, PhoneList, Stress};
 pub use refusal::{Refusal, Refused};
-pub use sections::{Found, Letters, Lexicon, Sayable, Source};
+pub use sections::{Found, Letters, Lexicon, Predicted, Sayable, Source};
 pub use settings::{read_settings, write_setting, Setting, Settings};
-pub use sheet::{Phones, Sheet, Syllable, Syllables, Word, Words};
+pub use sheet::{Phones, Said, Sheet, Syllable, Syllables, Word, Words};
 pub use store::Store;
 #[cfg(feature = "std")]
 pub use tables::{read_section, Tables, TablesError, SECTION_NAMES};

@@ -93,6 +93,38 @@ pub struct Found<'o> {
     pub phones: PhoneList<'o>,
 }
 
+/// What a word's letters told: its phones, and where the letters stopped.
+#[derive(Debug, Clone, Copy)]
+pub struct Predicted<'o> {
+    phones: PhoneList<'o>,
+    place: usize,
+}
+
+impl<'o> Predicted<'o> {
+    /// The phones, with their stress, in the bytes that were lent for them.
+    pub fn phones(&self) -> PhoneList<'o> {
+        self.phones
+    }
+
+    /// The place just after the last "#" in the word as given, counted in bytes from 0; 0 if there is none. The
+    /// letters from there on gave the phones. It is at most the word's length.
+    ///
+    /// ```
+    /// use pronouncer::{example, LIST_BYTES};
+    ///
+    /// let (word, mut out) = ("tempo#two", [0; LIST_BYTES]);
+    /// let predicted = example::LETTERS.predict(word, &mut out)?;
+    /// assert_eq!((predicted.place(), predicted.phones().to_string()), (6, "t w ow1".into()));
+    /// assert_eq!(word.split_at(predicted.place()), ("tempo#", "two"));
+    ///
+    /// assert_eq!(example::LETTERS.predict("two", &mut out)?.place(), 0);
+    /// # Ok::<(), pronouncer::Refused>(())
+    /// ```
+    pub fn place(&self) -> usize {
+        self.place
+    }
+}
+
 impl<'a> Lexicon<'a> {
     /// Whether the lexicon is whole: no entry is damaged, every phone number has a phone, and the words are
     /// in the order of their bytes. Ask it once of tables that somebody else made; without it each call still
@@ -169,7 +201,9 @@ impl<'a> Letters<'a> {
     /// Tells a word's phones from its letters. They are written into `out`, 16 bytes each; 94 phones are the
     /// most.
     ///
-    /// Only the letters behind the word's last "#" are read.
+    /// Only the letters behind the word's last "#" give phones; where that is, [`Predicted::place`] tells. The
+    /// bytes before it are still neighbours of the first letters, so "tempo#two" may have other phones than
+    /// "two".
     ///
     /// # Errors
     ///
@@ -180,16 +214,17 @@ impl<'a> Letters<'a> {
     /// use pronouncer::{example, LIST_BYTES};
     ///
     /// let mut out = [0; LIST_BYTES];
-    /// assert_eq!(example::LETTERS.predict("Tab", &mut out)?.to_string(), "t ae1 b");
+    /// assert_eq!(example::LETTERS.predict("Tab", &mut out)?.phones().to_string(), "t ae1 b");
     /// # Ok::<(), pronouncer::Refused>(())
     /// ```
     pub fn predict<'o>(
         &self,
         word: impl AsRef<[u8]>,
         out: &'o mut [u8],
-    ) -> Result<PhoneList<'o>, Refused> {
-        let count = foreign::predict(self.sections(), word.as_ref(), out).accepted()?.count();
-        Ok(PhoneList::from_cells(&out[..CELL_BYTES * count]))
+    ) -> Result<Predicted<'o>, Refused> {
+        let answer = foreign::predict(self.sections(), word.as_ref(), out).accepted()?;
+        let phones = PhoneList::from_cells(&out[..CELL_BYTES * answer.count()]);
+        Ok(Predicted { phones, place: answer.place() })
     }
 
     pub(crate) fn sections(&self) -> [&'a [u8]; 3] {

@@ -58,7 +58,7 @@ impl<'a> Sheet<'a> {
     }
 
     /// Says a word: puts it last, with the phones that [`Lexicon::lookup`] finds, or else
-    /// [`Letters::predict`] tells, cut into syllables.
+    /// [`Letters::predict`] tells, cut into syllables. [`Said::place`] tells where the letters stopped.
     ///
     /// # Errors
     ///
@@ -74,14 +74,14 @@ impl<'a> Sheet<'a> {
         store: &Store<'_>,
         word: impl AsRef<[u8]>,
         tag: impl AsRef<[u8]>,
-    ) -> Result<(), Refused> {
+    ) -> Result<Said, Refused> {
         let (word, tag) = (word.as_ref(), tag.as_ref());
         let (lexicon, letters) = (lexicon.sections(), letters.sections());
         let answer = foreign::say_word(lexicon, letters, store.bytes(), self.bytes, word, tag);
-        answer.accepted_on(|| {
+        let answer = answer.accepted_on(|| {
             unsound::in_store(store.bytes()).or_else(|| unsound::in_sheet(self.bytes))
         })?;
-        Ok(())
+        Ok(Said { place: answer.place() })
     }
 
     /// Writes all phones of the sheet in order, with one blank between two, into `out`.
@@ -138,6 +138,39 @@ impl<'s> IntoIterator for &'s Sheet<'_> {
 
     fn into_iter(self) -> Words<'s> {
         self.words()
+    }
+}
+
+/// What [`Sheet::say_word`] tells of a word that was said.
+#[derive(Debug, Clone, Copy, PartialEq, Eq, Hash)]
+pub struct Said {
+    place: usize,
+}
+
+impl Said {
+    /// Where the letters stopped, as [`Predicted::place`](crate::Predicted::place) tells it; 0 where the letters
+    /// were not read, since the word was found whole. What stands from there on was said.
+    ///
+    /// ```
+    /// use pronouncer::{example, Sheet, Store};
+    ///
+    /// let (mut slots, mut items) = ([0; 512], [0; 64 * 64]);
+    /// let store = Store::new_store(&mut slots)?;
+    /// let mut sheet = Sheet::new_sheet(&mut items)?;
+    /// let mut place = |word: &str| {
+    ///     let said = sheet.say_word(&example::LEXICON, &example::LETTERS, &store, word, "")?;
+    ///     Ok::<usize, pronouncer::Refused>(said.place())
+    /// };
+    ///
+    /// let word = "tempo#two";
+    /// assert_eq!(&word[place(word)?..], "two");
+    /// assert_eq!(place("tempo")?, 0);
+    /// // "#" is in the library's own table.
+    /// assert_eq!(place("#")?, 0);
+    /// # Ok::<(), pronouncer::Refused>(())
+    /// ```
+    pub fn place(&self) -> usize {
+        self.place
     }
 }
 

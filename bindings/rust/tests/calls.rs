@@ -38,11 +38,12 @@ impl Show {
         told.map_err(|refused| (refused.refusal, refused.line))
     }
 
-    fn say(&mut self, word: &str, tag: &str) -> Result<(), Refusal> {
+    /// Where the letters stopped, or why the word was not said.
+    fn say(&mut self, word: &str, tag: &str) -> Result<usize, Refusal> {
         let store = Store::over(&mut self.slots);
         let mut sheet = Sheet::over(&mut self.items);
         let told = sheet.say_word(&example::LEXICON, &example::LETTERS, &store, word, tag);
-        told.map_err(|refused| refused.refusal)
+        told.map(|said| said.place()).map_err(|refused| refused.refusal)
     }
 
     /// What is on the sheet; the phone string and the chain of phones must tell the same phones.
@@ -66,9 +67,9 @@ fn a_show() {
     assert_eq!(show.reads(), "");
 
     // The lexicon has lead as a noun first, and as a verb; it has no capitals, so Lead goes to the letters.
-    assert_eq!(show.say("lead", ""), Ok(()));
-    assert_eq!(show.say("lead", "v"), Ok(()));
-    assert_eq!(show.say("Lead", ""), Ok(()));
+    assert_eq!(show.say("lead", ""), Ok(0));
+    assert_eq!(show.say("lead", "v"), Ok(0));
+    assert_eq!(show.say("Lead", ""), Ok(0));
     let three = "lead[l eh d 1] lead[l iy d 1] Lead[l eh 1][ae d 1]";
     assert_eq!(show.reads(), three);
 
@@ -80,7 +81,7 @@ fn a_show() {
     assert_eq!(show.reads(), three);
 
     // A word without phones has no syllables.
-    assert_eq!(show.say(",", ""), Ok(()));
+    assert_eq!(show.say(",", ""), Ok(0));
     assert_eq!(show.reads(), format!("{three} ,"));
 }
 
@@ -88,7 +89,7 @@ fn a_show() {
 fn entries_between_words() {
     let mut show = Show::begun();
     for word in ["lead", "lead", "Lead", ","] {
-        assert_eq!(show.say(word, "v"), Ok(()));
+        assert_eq!(show.say(word, "v"), Ok(0));
     }
     let before = "lead[l iy d 1] lead[l iy d 1] Lead[l eh 1][ae d 1] ,";
     assert_eq!(show.reads(), before);
@@ -96,17 +97,17 @@ fn entries_between_words() {
     // An added entry comes before the lexicon's, and takes capitals; what was said before stays. Six items
     // are unused.
     assert_eq!(show.add("Lead", "", &["l", "ih0", "d"]), Ok(()));
-    assert_eq!(show.say("LEAD", "v"), Ok(()));
+    assert_eq!(show.say("LEAD", "v"), Ok(0));
     assert_eq!(show.reads(), format!("{before} LEAD[l ih d 0]"));
     assert_eq!(show.say("tabs", ""), Err(Refusal::Short));
-    assert_eq!(show.say(".", ""), Ok(()));
+    assert_eq!(show.say(".", ""), Ok(0));
     assert_eq!(show.say(".", ""), Err(Refusal::Short));
     assert_eq!(show.reads(), format!("{before} LEAD[l ih d 0] ."));
 
     // A new sheet drops the words, not the entries.
     show.clear();
     assert_eq!(show.reads(), "");
-    assert_eq!(show.say("lead", "n"), Ok(()));
+    assert_eq!(show.say("lead", "n"), Ok(0));
     assert_eq!(show.reads(), "lead[l ih d 0]");
 }
 
@@ -115,7 +116,7 @@ fn a_text_is_taken_whole_or_not_at_all() {
     let mut show = Show::begun();
     let too_many = "a : k\nb : k\nc : k";
     assert_eq!(show.add_text(too_many), Err((Refusal::Full, 3)));
-    assert_eq!(show.say("b", ""), Ok(()));
+    assert_eq!(show.say("b", ""), Ok(0));
     assert_eq!(
         show.add_text(
             "# tonight\n\"gobo\" n : g ow1 b ow0 # twice\nGobo n : g ow0 b ow1\n\nb : iy1"
@@ -123,9 +124,28 @@ fn a_text_is_taken_whole_or_not_at_all() {
         Ok(3)
     );
     for word in ["gobo", "b"] {
-        assert_eq!(show.say(word, ""), Ok(()));
+        assert_eq!(show.say(word, ""), Ok(0));
     }
     assert_eq!(show.reads(), "b[b 0] gobo[g ow 0][b ow 1] b[iy 1]");
+}
+
+#[test]
+fn a_word_with_a_hash_before_and_behind_its_entry() {
+    let mut show = Show::begun();
+    assert_eq!(show.say("Cat#Tab", "n"), Ok(4));
+    assert_eq!(show.reads(), "Cat#Tab[t ae b 1]");
+    assert_eq!(show.say("a#lead", &"n".repeat(48)), Err(Refusal::Text));
+
+    assert_eq!(show.add("cat#tab", "n", &["k", "ae1", "t"]), Ok(()));
+    assert_eq!(show.say("Cat#Tab", "n"), Ok(0));
+    assert_eq!(show.say("Cat#Tab", "v"), Ok(4));
+    let three = "Cat#Tab[t ae b 1] Cat#Tab[k ae t 1] Cat#Tab[t ae b 1]";
+    assert_eq!(show.reads(), three);
+
+    // Nine items are unused.
+    assert_eq!(show.say("a#latitude", ""), Err(Refusal::Short));
+    assert_eq!(show.say("latitude#a", ""), Ok(9));
+    assert_eq!(show.reads(), format!("{three} latitude#a[ae 1]"));
 }
 
 #[test]
@@ -136,6 +156,6 @@ fn entries_of_other_racks() {
     let kept = show.slots.clone();
     let mut other = Show::begun();
     other.slots = kept;
-    assert_eq!(other.say("Iris", ""), Ok(()));
+    assert_eq!(other.say("Iris", ""), Ok(0));
     assert_eq!(other.reads(), "Iris[ay 1][r ih s 0]");
 }

@@ -67,7 +67,7 @@ fn of_a_spare() {
 /// What a word is refused by, onto a sheet and with a store.
 fn said(items: &mut [u8], slots: &mut [u8]) -> Result<(), Refused> {
     let (lexicon, letters) = (example::LEXICON, example::LETTERS);
-    Sheet::over(items).say_word(&lexicon, &letters, &Store::over(slots), "cat", "")
+    Sheet::over(items).say_word(&lexicon, &letters, &Store::over(slots), "cat", "").map(drop)
 }
 
 #[test]

@@ -57,7 +57,7 @@ fn letters() {
     let whole = example::LETTERS;
     let say = |letters: Letters<'_>| {
         let mut out = cut(&[9; 48], 48);
-        letters.predict("faz", &mut out).map(|phones| phones.to_string())
+        letters.predict("faz", &mut out).map(|predicted| predicted.phones().to_string())
     };
     let phones = || "f ae1 z".to_string();
     each_cut(

@@ -1,6 +1,6 @@
 //! The C header compiles alone, as C and as C++, and C programs link with the library: the example says its
-//! words, and kinds that no Rust can hand over are refused. Where there is no compiler these tests say so and
-//! pass.
+//! words, kinds that no Rust can hand over are refused, and C is told where letters stopped. Where there is no
+//! compiler these tests say so and pass.
 
 use std::path::{Path, PathBuf};
 use std::process::{Command, Output};
@@ -56,13 +56,24 @@ fn printed(source: &Path, name: &str) -> Option<String> {
 
 #[test]
 fn example_links_and_runs() {
-    let wanted = "t ao r m eh n t er ey\npitch 120, stretch 1, level 80, rack 1.5\n";
+    let wanted = "tempo#k: only \"k\" was read\n\
+        t ao r m eh n t er ey\npitch 120, stretch 1, level 80, rack 1.5\n";
     let said = printed(&c_file("example.c"), "example");
     said.into_iter().for_each(|said| assert_eq!(said, wanted));
 }
 
+/// Runs a C program of this folder, which must end well.
+fn ends_well(name: &str) {
+    let source = Path::new(env!("CARGO_MANIFEST_DIR")).join(format!("tests/{name}.c"));
+    printed(&source, name);
+}
+
 #[test]
 fn kinds_of_settings() {
-    let source = Path::new(env!("CARGO_MANIFEST_DIR")).join("tests/kinds.c");
-    printed(&source, "kinds");
+    ends_well("kinds");
+}
+
+#[test]
+fn places_where_letters_stopped() {
+    ends_well("places");
 }

@@ -231,7 +231,8 @@ struct Said<'a> {
 
 impl Said<'_> {
     fn onto(self, sheet: &mut [u8]) -> Result<(), Refused> {
-        Sheet::over(sheet).say_word(&self.lexicon, &self.letters, self.store, self.word, self.tag)
+        let (lexicon, letters) = (&self.lexicon, &self.letters);
+        Sheet::over(sheet).say_word(lexicon, letters, self.store, self.word, self.tag).map(drop)
     }
 }
 

@@ -84,8 +84,9 @@ fn lead_and_lead() {
 fn words_without_letters() {
     let mut out = [9; 16];
     for word in ["", "a#"] {
-        assert!(NO_TREES.predict(word, &mut out).expect("it is accepted").is_empty());
-        assert!(example::LETTERS.predict(word, &mut out).expect("it is accepted").is_empty());
+        for letters in [NO_TREES, example::LETTERS] {
+            assert!(letters.predict(word, &mut out).expect("it is accepted").phones().is_empty());
+        }
     }
     assert_eq!(out, [9; 16]);
 }

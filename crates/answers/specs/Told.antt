@@ -1,4 +1,4 @@
--- 01, What a call gives back, and 02, S-12: the number of each refusal, and every case of every answer as numbers.
+-- 01, What a call gives back, and 02, S-5 and S-12: the number of each refusal, and every case of every answer as numbers.
 -- Assumes nothing.
 use Prim.Native.Nat.{ℕ}
 use mathlib.Core.Bool.{false, cond}
@@ -56,9 +56,13 @@ sourceNumber Compiled = 3
 abbrev pub refused : ℕ → ℕ → Answer
 refused n line = record { refusal = n; kind = 0; value = line; second = 0; third = 0 }
 
+-- accepted, with all that an answer can tell
+abbrev pub acceptedWith : ℕ → ℕ → ℕ → ℕ → Answer
+acceptedWith kind value second third = record { refusal = 0; kind = kind; value = value; second = second; third = third }
+
 -- accepted, with a kind and a count
 abbrev pub accepted : ℕ → ℕ → Answer
-accepted kind count = record { refusal = 0; kind = kind; value = count; second = 0; third = 0 }
+accepted kind count = acceptedWith kind count 0 0
 
 -- a lent buffer at exit: what the call writes where it was accepted, else as it was
 abbrev pub written : Answer → List ℕ → List ℕ → List ℕ
@@ -74,9 +78,10 @@ toldLooked (notLooked r) = refused (refusalNumber r) 0
 toldLooked Nothing = accepted 0 0
 toldLooked (Found s n) = accepted (sourceNumber s) n
 
+-- 02, S-5: where the letters stopped is the second number
 abbrev pub toldPredicted : Predicted → Answer
 toldPredicted (notPredicted r) = refused (refusalNumber r) 0
-toldPredicted (phones n) = accepted 0 n
+toldPredicted (phones n place) = acceptedWith 0 n place 0
 
 abbrev pub toldMarked : Marked → Answer
 toldMarked (notMarked r) = refused (refusalNumber r) 0
@@ -92,7 +97,7 @@ toldLines (Taken n) = accepted 0 n
 
 abbrev pub toldSaid : Said → Answer
 toldSaid (notSaid r) = refused (refusalNumber r) 0
-toldSaid said = accepted 0 0
+toldSaid (said place) = acceptedWith 0 0 place 0
 
 abbrev pub toldJoined : Joined → Answer
 toldJoined (notJoined r) = refused (refusalNumber r) 0

@@ -1,7 +1,7 @@
 // What a call gives back (01, What a call gives back): why it was refused, or its answer; and the
 // one form of numbers in which every answer leaves the library.
 ghost use mathlib.Core.Path.{_≡_};
-ghost use Rattle.answers.specs.Told.{refusalNumber, sourceNumber, refused as refusedBy, accepted as acceptedAs, toldVerdict, toldLooked, toldPredicted, toldMarked, toldDone, toldLines, toldSaid, toldJoined, noSettings, toldShown};
+ghost use Rattle.answers.specs.Told.{refusalNumber, sourceNumber, refused as refusedBy, accepted as acceptedAs, acceptedWith, toldVerdict, toldLooked, toldPredicted, toldMarked, toldDone, toldLines, toldSaid, toldJoined, noSettings, toldShown};
 
 // Why a call was refused: 01's numbers 1 to 9 in this order, then 02's 15, 16 and 17. docs/FORMATS.md has their ranks.
 pub enum Refusal {
@@ -40,10 +40,10 @@ pub enum Looked {
     Found(Source, usize),
 }
 
-// predict: how many phones
+// predict: how many phones, and the place just after the last "#" (02, S-5)
 pub enum Predicted {
     Refused(Refusal),
-    Phones(usize),
+    Phones(usize, usize),
 }
 
 // syllabify: how many marks
@@ -64,10 +64,10 @@ pub enum Lines {
     Taken(usize),
 }
 
-// say word
+// say word: the place just after the last "#", 0 where the letters weren't read (02, S-5)
 pub enum Said {
     Refused(Refusal),
-    Accepted,
+    Accepted(usize),
 }
 
 // phone string: how many bytes
@@ -97,7 +97,8 @@ pub struct Settings {
 }
 
 // An answer as numbers, in the form that C sees: `refusal` is 0 where the call was accepted, `kind`
-// a source or a yes, `value` the line of a refusal or a count; the last two wait for document 02.
+// a source or a yes, `value` the line of a refusal or a count, `second` the place where the letters stopped; the last waits
+// for document 02.
 #[repr(C)]
 pub struct Answer {
     pub refusal: u32,
@@ -126,7 +127,7 @@ fn refusal_number(r: Refusal) -> u32
     }
 }
 
-fn source_number(s: Source) -> u32
+pub fn source_number(s: Source) -> u8
     ensures { λ n. ⌜ n ≡ sourceNumber s ⌝ }
 {
     match s {
@@ -148,16 +149,22 @@ fn refused(r: Refusal, line: usize) -> Answer
     }
 }
 
-pub fn accepted(kind: u32, value: usize) -> Answer
-    ensures { λ a. ⌜ a ≡ acceptedAs kind value ⌝ }
+fn accepted_with(kind: u32, value: usize, second: usize, third: usize) -> Answer
+    ensures { λ a. ⌜ a ≡ acceptedWith kind value second third ⌝ }
 {
     Answer {
         refusal: 0,
         kind,
         value: value as u64,
-        second: 0,
-        third: 0,
+        second: second as u64,
+        third: third as u64,
     }
+}
+
+pub fn accepted(kind: u32, value: usize) -> Answer
+    ensures { λ a. ⌜ a ≡ acceptedAs kind value ⌝ }
+{
+    accepted_with(kind, value, 0, 0)
 }
 
 pub fn told_verdict(a: Verdict) -> Answer
@@ -176,7 +183,7 @@ pub fn told_looked(a: Looked) -> Answer
     match a {
         Looked::Refused(r) => refused(r, 0),
         Looked::Nothing => accepted(0, 0),
-        Looked::Found(s, n) => accepted(source_number(s), n),
+        Looked::Found(s, n) => accepted(source_number(s) as u32, n),
     }
 }
 
@@ -185,7 +192,7 @@ pub fn told_predicted(a: Predicted) -> Answer
 {
     match a {
         Predicted::Refused(r) => refused(r, 0),
-        Predicted::Phones(n) => accepted(0, n),
+        Predicted::Phones(n, place) => accepted_with(0, n, place, 0),
     }
 }
 
@@ -221,7 +228,7 @@ pub fn told_said(a: Said) -> Answer
 {
     match a {
         Said::Refused(r) => refused(r, 0),
-        Said::Accepted => accepted(0, 0),
+        Said::Accepted(place) => accepted_with(0, 0, place, 0),
     }
 }
 

@@ -30,7 +30,7 @@ module _ (c : Sections) where
   -- the word that was said; one that is barred is refused, and puts nothing
   abbrev pub onSpoken : List ℕ → Spoken → List Word
   onSpoken word (barred n) = []
-  onSpoken word (phones ps) = said word ps ∷ []
+  onSpoken word (phones source place ps) = said word ps ∷ []
 
   -- what an accepted call changes
   unfoldable pub accepts : Call → Book → Book

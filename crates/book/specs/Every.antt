@@ -107,10 +107,10 @@ module _ (c : Sections) (s : State) (k : Book) (a : Agrees s k) where
   heard : (word tag : List ℕ) (p : Spoken) → pronounced c (entries (s .store)) word tag ≡ p → Passed c (s .store) (s .sheet) word tag → onSpokenAnswer (s .sheet) word p .refusal ≡ 0
       → Agrees (record { store = s .store; sheet = withSpoken (s .sheet) word p }) (record { entries = k .entries; words = k .words ++ onSpoken c word p })
   heard word tag (barred n) e t h = subst (λ (ws : List Word). Agrees (record { store = s .store; sheet = s .sheet }) (record { entries = k .entries; words = ws })) (sym (append-nil (k .words))) (record { store = a .store; entries = a .entries; sheet = a .sheet; words = a .words; cut = a .cut })
-  heard word tag (phones ps) e t h =
+  heard word tag (phones source place ps) e t h =
       cases (isCrowded (s .sheet) (said word ps))
       (λ f. absurd (omega (arith, (rw f at h))))
-      (λ f. let p = pronounced-fits c (entries (s .store)) word tag (entries-fit (s .store) (a .store)) (t .lexicon) (t .trees) ps e in
+      (λ f. let p = pronounced-fits c (entries (s .store)) word tag (entries-fit (s .store) (a .store)) (t .lexicon) (t .trees) source place ps e in
       let may = (phones-said word ps (t .text) p) in
       let room = (leb-false (items (s .sheet)) (used (s .sheet) + size (said word ps)) f) in
       record { store = a .store; entries = a .entries; sheet = append-law (s .sheet) (said word ps) (a .sheet) may room .sound; words = append-reads (s .sheet) (said word ps) (a .sheet) may room ∙ ap (λ (ws : List Word). ws ++ (said word ps ∷ [])) (a .words); cut = each-last WellCut (k .words) (said word ps) (a .cut) (said-cut word ps) })

@@ -69,7 +69,18 @@ pub fn argument(room: &[u8], given: Given, k: usize) -> &[u8] {
     read::part(room, 0, 0)
 }
 
-// Whether an answer is the three numbers from token k of a line on, and no other number is told.
+// Whether an answer tells the numbers of a token: its value, and behind colons the two numbers more, 0 where they don't stand.
+fn tells(a: Answer, told: &[u8]) -> bool {
+    if a.value != read::number(read::field(told, 0, 58)) {
+        return false;
+    }
+    if a.second != read::number(read::field(told, 1, 58)) {
+        return false;
+    }
+    a.third == read::number(read::field(told, 2, 58))
+}
+
+// Whether an answer is the refusal, the kind and the numbers from token k of a line on.
 pub fn agrees(a: Answer, line: &[u8], k: usize) -> bool {
     if 100 < k {
         return false;
@@ -80,13 +91,7 @@ pub fn agrees(a: Answer, line: &[u8], k: usize) -> bool {
     if a.kind as u64 != read::number(read::token(line, k + 1)) {
         return false;
     }
-    if a.value != read::number(read::token(line, k + 2)) {
-        return false;
-    }
-    if a.second != 0 {
-        return false;
-    }
-    a.third == 0
+    tells(a, read::token(line, k + 2))
 }
 
 // Bytes put at the front of a buffer; how many, none where they are too many.

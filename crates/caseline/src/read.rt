@@ -26,19 +26,24 @@ pub fn find_from(s: &[u8], from: usize, b: u8) -> usize
     s.len()
 }
 
-// Token k of a line, counted from 0; empty where there is none.
-pub fn token(line: &[u8], k: usize) -> &[u8] {
+// Field k of a text that a byte parts, counted from 0; empty where there is none.
+pub fn field(text: &[u8], k: usize, b: u8) -> &[u8] {
     let mut from = 0;
     let mut left = k;
     while 0 < left {
-        let end = find_from(line, from, 32);
-        if end == line.len() {
-            return part(line, end, end);
+        let end = find_from(text, from, b);
+        if end == text.len() {
+            return part(text, end, end);
         }
         from = end + 1;
         left -= 1;
     }
-    part(line, from, find_from(line, from, 32))
+    part(text, from, find_from(text, from, b))
+}
+
+// Token k of a line, counted from 0; empty where there is none.
+pub fn token(line: &[u8], k: usize) -> &[u8] {
+    field(line, k, 32)
 }
 
 // A decimal number at the front of a text, up to the first byte that is no digit.

@@ -18,9 +18,10 @@ use Rattle.cells.specs.Cells.{cell, cellsOf}
 use Rattle.trees.specs.Walk.{walk}
 use Rattle.trees.specs.declared.Walked.{Walked}
 use Rattle.trees.specs.declared.Walked.the-variants.{Phone, Damaged as damaged}
-use Rattle.lts.specs.Letters.{padded, window, spoken, spoken-none, spoken-two, spoken-one, behind, leaf, letter, joined, upTo, letters, Puts}
+use Rattle.lts.specs.Letters.{padded, window, spoken, spoken-none, spoken-two, spoken-one, behind, leaf, letter, joined, upTo, letters, Puts, Spells}
 use Rattle.lts.specs.declared.Letters.{Letters}
 use Rattle.lts.specs.declared.Letters.the-variants.{From, Damaged}
+use Rattle.lts.specs.declared.Spelled.the-variants.{From as spelledFrom, Damaged as unspelled}
 
 pub padded-length : (word : List ℕ) → length (padded word) ≡ length word + 8
 unfolding padded
@@ -89,18 +90,18 @@ module _ (phones index model : List ℕ) where
 
   module _ (text list₀ list : List ℕ) (n left at : ℕ) (s : Spelling text list₀ list n left at) where
     -- nothing more comes before the phones said
-    spelling-done : upTo phones index model text left ≡ some [] → Puts (upTo phones index model text n) list₀ 94 (From at) list
-    spelling-done e =
+    spelling-done : (place : ℕ) → upTo phones index model text left ≡ some [] → Spells (upTo phones index model text n) place list₀ (spelledFrom at place) list
+    spelling-done place e =
         let c = s .count in
         let f : 94 - length (s .said) ≡ at = omega arith in
-        rw (s .rest, e) (rw f, omega arith, rw f (s .cells))
+        rw (s .rest, e) (rw f, (omega arith, rw f (s .cells)))
 
-    pub spelling-end : left ≤ 0 → Puts (upTo phones index model text n) list₀ 94 (From at) list
+    pub spelling-end : (place : ℕ) → left ≤ 0 → Spells (upTo phones index model text n) place list₀ (spelledFrom at place) list
     unfolding upTo
-    spelling-end h = let e : left ≡ 0 = omega arith in spelling-done (rw e)
+    spelling-end place h = let e : left ≡ 0 = omega arith in spelling-done place (rw e)
 
-    pub spelling-stop : 0 < left → is 35 (getD text (left + 3) 0) ≡ true → Puts (upTo phones index model text n) list₀ 94 (From at) list
-    spelling-stop h e = spelling-done (upTo-turn text left h ∙ rw e)
+    pub spelling-stop : (place : ℕ) → 0 < left → is 35 (getD text (left + 3) 0) ≡ true → Spells (upTo phones index model text n) place list₀ (spelledFrom at place) list
+    spelling-stop place h e = spelling-done place (upTo-turn text left h ∙ rw e)
 
     module _ (h : 0 < left) (e : is 35 (getD text (left + 3) 0) ≡ false) (list′ : List ℕ) (r : Letters) where
       left-turn : (o : Option (List (List ℕ))) → letter phones index model text (left + 3) ≡ o
@@ -108,12 +109,12 @@ module _ (phones index model : List ℕ) where
       left-turn o eo = s .rest ∙ rw (upTo-turn text left h, e, eo)
 
       -- a damaged tree
-      pub spelling-damaged : Puts (letter phones index model text (left + 3)) list at r list′ → r ≡ Damaged
-          → Puts (upTo phones index model text n) list₀ 94 Damaged list′
-      spelling-damaged p er = go (letter phones index model text (left + 3)) refl p
+      pub spelling-damaged : (place : ℕ) → Puts (letter phones index model text (left + 3)) list at r list′ → r ≡ Damaged
+          → Spells (upTo phones index model text n) place list₀ unspelled list′
+      spelling-damaged place p er = go (letter phones index model text (left + 3)) refl p
         where
           go : (o : Option (List (List ℕ))) → letter phones index model text (left + 3) ≡ o → Puts o list at r list′
-              → Puts (upTo phones index model text n) list₀ 94 Damaged list′
+              → Spells (upTo phones index model text n) place list₀ unspelled list′
           go none eo p = rw (left-turn none eo) refl
           go (some ps) eo p = let q = p .0 in let z : _≡_ {A = ℕ} 0 1 = cc in absurd (omega arith)
 
@@ -127,14 +128,14 @@ module _ (phones index model : List ℕ) where
           go none eo p = let z : _≡_ {A = ℕ} 0 1 = cc in absurd (omega arith)
           go (some ps) eo p =
               let q = p .0 in
-              let m = p .1 in
+              let m = p .1 .0 in
               let f : first ≡ at - length ps = cc in
               let k = letter-short text (left + 3) ps eo in
               let c = s .count in
               let w = s .room in
               record {
                 said = ps ++ s .said;
-                cells = rw (f, cells-append, append-assoc) (p .2 ∙ ap (λ (x : List ℕ). cellsOf ps ++ x) (s .cells));
+                cells = rw (f, cells-append, append-assoc) (p .1 .1 ∙ ap (λ (x : List ℕ). cellsOf ps ++ x) (s .cells));
                 count = rw length-append (omega arith);
                 room = omega arith;
                 rest = left-turn (some ps) eo ∙ behind-twice (upTo phones index model text (left - 1)) ps (s .said);

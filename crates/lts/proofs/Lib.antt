@@ -1,4 +1,5 @@
 pub mod Fill
 pub mod Put
 pub mod Leftwards
+pub mod Stopping
 pub mod Found

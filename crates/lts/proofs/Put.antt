@@ -22,7 +22,7 @@ cell-before p list list′ at i hp hi fits e =
 pub puts-one : (p list list′ : List ℕ) (at : ℕ) → length p ≤ 15 → 1 ≤ at → 16 * at ≤ length list → list′ ≡ putRecord 16 list (at - 1) (cell p)
     → Puts (some (p ∷ [])) list at (From (at - 1)) list′
 unfolding cellsOf
-puts-one p list list′ at hp h fits e = (refl, h, rw append-nil (cell-before p list list′ at (at - 1) hp (omega arith) fits e))
+puts-one p list list′ at hp h fits e = (refl, (h, rw append-nil (cell-before p list list′ at (at - 1) hp (omega arith) fits e)))
 
 pub puts-two : (p q list list₁ list₂ : List ℕ) (at : ℕ) → length p ≤ 15 → length q ≤ 15 → 2 ≤ at → 16 * at ≤ length list
     → list₁ ≡ putRecord 16 list (at - 1) (cell q) → list₂ ≡ putRecord 16 list₁ (at - 2) (cell p)
@@ -32,8 +32,8 @@ puts-two p q list list₁ list₂ at hp hq h fits e₁ e₂ =
     let l : length list₁ ≡ length list = rw e₁ (length-putRecord 16 list (at - 1) (cell q) (omega arith) (length-cell q hq)) in
     let a = cell-before q list list₁ at (at - 1) hq (omega arith) fits e₁ in
     let b = cell-before p list₁ list₂ (at - 1) (at - 2) hp (omega arith) (omega arith) e₂ in
-    (refl, h, rw (append-nil, append-assoc) (b ∙ ap (λ (s : List ℕ). cell p ++ s) a))
+    (refl, (h, rw (append-nil, append-assoc) (b ∙ ap (λ (s : List ℕ). cell p ++ s) a)))
 
 pub puts-none : (list : List ℕ) (at : ℕ) → Puts (some []) list at (From at) list
 unfolding cellsOf
-puts-none list at = (rw sub-zero, zero-le, rw sub-zero)
+puts-none list at = (rw sub-zero, (zero-le, rw sub-zero))

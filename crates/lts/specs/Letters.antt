@@ -1,4 +1,4 @@
--- 01, Letter trees: the phones of a word, by the trees of its letters.
+-- 01, Letter trees: the phones of a word, by the trees of its letters; and 02, S-5: the place where these stop.
 -- Assumes nothing.
 use Prim.Native.Nat.{ℕ, zero, suc, _+_, _-_, _*_, _/_, _%_, _≤_, _<_}
 use mathlib.Core.Path.{_≡_}
@@ -10,7 +10,7 @@ use lib.ListN.{length, getD, take, drop}
 use native.Mathlib.Omega.{arith}
 use borrow.Author.Tests.{lt-ltb, le-ltb, le-leb, lt-leb, eqb-true}
 use Rattle.texts.specs.Choice.{if_then_else_, both-true}
-use Rattle.texts.specs.Lists.{place}
+use Rattle.texts.specs.Lists.{place, behindLast}
 use Rattle.texts.specs.Text.{bytes, folded, same, is}
 use Rattle.records.specs.Fields.{u16At, u32At}
 use Rattle.cells.specs.Cells.{cellsOf}
@@ -20,6 +20,8 @@ use Rattle.trees.specs.declared.Walked.{Walked}
 use Rattle.trees.specs.declared.Walked.the-variants.{Phone, Damaged as damaged}
 use Rattle.lts.specs.declared.Letters.{Letters}
 use Rattle.lts.specs.declared.Letters.the-variants.{From, Damaged}
+use Rattle.lts.specs.declared.Spelled.{Spelled}
+use Rattle.lts.specs.declared.Spelled.the-variants.{From as spelledFrom, Damaged as unspelled}
 
 -- the folded word between "000#" and "#000"
 unfoldable pub padded : List ℕ → List ℕ
@@ -74,11 +76,23 @@ module _ (phones index model : List ℕ) where
   unfoldable pub letters : List ℕ → Option (List (List ℕ))
   letters word = upTo (padded word) (length word)
 
--- what putting phones before cell `at` of a list leaves: their first cell is told, and from it on stand their cells and then what stood from `at` on
+-- 02, S-5: where a word's letters stop, the place just after its last "#", counted from 0 in the word as given; 0 if there is none
+unfoldable pub stopped : List ℕ → ℕ
+stopped word = behindLast (is 35) word
+
+-- phones put before cell `at` of a list: from their first cell on stand their cells and then what stood from `at` on
+abbrev pub Stand : List (List ℕ) → List ℕ → ℕ → List ℕ → Type 0
+Stand ps list at list′ = (length ps ≤ at) × (drop (16 * (at - length ps)) list′ ≡ cellsOf ps ++ drop (16 * at) list)
+
+-- and their first cell is told
 abbrev pub Puts : Option (List (List ℕ)) → List ℕ → ℕ → Letters → List ℕ → Type 0
 Puts none list at r list′ = r ≡ Damaged
-Puts (some ps) list at r list′ =
-    (r ≡ From (at - length ps)) × (length ps ≤ at) × (drop (16 * (at - length ps)) list′ ≡ cellsOf ps ++ drop (16 * at) list)
+Puts (some ps) list at r list′ = (r ≡ From (at - length ps)) × Stand ps list at list′
+
+-- the same of a word's phones at the end of a list of 94 cells; told with the place where its letters stop
+abbrev pub Spells : Option (List (List ℕ)) → ℕ → List ℕ → Spelled → List ℕ → Type 0
+Spells none place list r list′ = r ≡ unspelled
+Spells (some ps) place list r list′ = (r ≡ spelledFrom (94 - length ps) place) × Stand ps list 94 list′
 
 -- the phones of a leaf, by the tests
 pub spoken-none : (x : List ℕ) → same x (bytes "epsilon") ≡ true → spoken x ≡ []

@@ -6,7 +6,7 @@ ghost use mathlib.Core.Option.{some};
 ghost use lib.ListN.{length, take};
 ghost use Rattle.data.specs.Places.{Placed};
 ghost use Rattle.answers.specs.Told.{toldPredicted};
-ghost use Rattle.lts.specs.Letters.{padded as paddedWord, window as windowAt, spoken, letter, letters, Puts, isTrees};
+ghost use Rattle.lts.specs.Letters.{padded as paddedWord, window as windowAt, spoken, letter, letters, stopped, Puts, Spells, isTrees};
 ghost use Rattle.lts.specs.Call.{toldPhones, outPhones, predict as answer, predicted};
 use answers::Predicted;
 use answers::Refusal;
@@ -15,6 +15,12 @@ use trees::Walked;
 // Where the phones of some letters stand: from a cell of a list on, up to where they were to end.
 pub enum Letters {
     From(usize),
+    Damaged,
+}
+
+// Where the phones of a word stand, from a cell of a list on; and the place where its letters stopped.
+pub enum Spelled {
+    From(usize, usize),
     Damaged,
 }
 
@@ -114,7 +120,7 @@ fn put_letter(
     }
 }
 
-// The phones of a word, at the end of a list of 94 cells: leftwards from the last byte until "#".
+// The phones of a word, at the end of a list of 94 cells: leftwards from the last byte until "#", whose place is told.
 pub fn spell(
     phones: &[u8],
     places: &[u16],
@@ -122,10 +128,10 @@ pub fn spell(
     model: &[u8],
     word: &[u8],
     list: &mut [u8],
-) -> Letters
+) -> Spelled
     requires { ⌜ (isTrees (now phones) (now index) (now model) ≡ true) × (length (now word) ≤ 47) × (length (now list) ≡ 1504) ⌝ }
     requires { ⌜ Placed (now phones) (now places) ⌝ }
-    ensures { λ r. ⌜ Puts (letters (now (phones .entry)) (now (index .entry)) (now (model .entry)) (now (word .entry))) (now (list .entry)) 94 r (now (list .exit)) ⌝ }
+    ensures { λ r. ⌜ Spells (letters (now (phones .entry)) (now (index .entry)) (now (model .entry)) (now (word .entry))) (stopped (now (word .entry))) (now (list .entry)) r (now (list .exit)) ⌝ }
 {
     let room = padded(word);
     let end = word.len() + 8;
@@ -135,16 +141,16 @@ pub fn spell(
     while 0 < left {
         let k = left + 3;
         if text[k] == 35 {
-            return Letters::From(at);
+            return Spelled::From(at, left);
         }
         let Letters::From(first) = put_letter(phones, places, index, model, text, k, list, at)
         else {
-            return Letters::Damaged;
+            return Spelled::Damaged;
         };
         at = first;
         left -= 1;
     }
-    Letters::From(at)
+    Spelled::From(at, left)
 }
 
 // The phones of a word, by way of a list of 94 cells.
@@ -159,10 +165,10 @@ pub fn spell_out(
 ) -> Predicted
     requires { ⌜ (isTrees (now phones) (now index) (now model) ≡ true) × (length (now word) ≤ 47) × (length (now list) ≡ 1504) ⌝ }
     requires { ⌜ Placed (now phones) (now places) ⌝ }
-    ensures { λ r. ⌜ toldPredicted r ≡ toldPhones (letters (now (phones .entry)) (now (index .entry)) (now (model .entry)) (now (word .entry))) (now (out .entry)) ⌝ }
-    ensures { λ _. ⌜ now (out .exit) ≡ outPhones (letters (now (phones .entry)) (now (index .entry)) (now (model .entry)) (now (word .entry))) (now (out .entry)) ⌝ }
+    ensures { λ r. ⌜ toldPredicted r ≡ toldPhones (letters (now (phones .entry)) (now (index .entry)) (now (model .entry)) (now (word .entry))) (stopped (now (word .entry))) (now (out .entry)) ⌝ }
+    ensures { λ _. ⌜ now (out .exit) ≡ outPhones (letters (now (phones .entry)) (now (index .entry)) (now (model .entry)) (now (word .entry))) (stopped (now (word .entry))) (now (out .entry)) ⌝ }
 {
-    let Letters::From(first) = spell(phones, places, index, model, word, list) else {
+    let Spelled::From(first, place) = spell(phones, places, index, model, word, list) else {
         return Predicted::Refused(Refusal::Damaged);
     };
     let n = 94 - first;
@@ -171,7 +177,7 @@ pub fn spell_out(
     }
     let from = 16 * first;
     records::copy_in(out, 0, &list[from..]);
-    Predicted::Phones(n)
+    Predicted::Phones(n, place)
 }
 
 pub fn predict(phones: &[u8], index: &[u8], model: &[u8], word: &[u8], out: &mut [u8]) -> Predicted

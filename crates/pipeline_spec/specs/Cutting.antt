@@ -8,18 +8,18 @@ use Rattle.texts.specs.Choice.{if_then_else_}
 use Rattle.phoneset.specs.Stress.{digits, isStressed, stress}
 use Rattle.cells.specs.Cells.{cellsOf}
 use Rattle.answers.specs.declared.Answer.{Answer}
-use Rattle.answers.specs.Told.{refused, accepted}
+use Rattle.answers.specs.Told.{refused, acceptedWith}
 use Rattle.pipeline_spec.specs.Pronounced.{Spoken, barred, phones}
 
--- a refusal, or how many phones
+-- a refusal; or the source, how many phones, and where the letters stopped
 abbrev pub toldSpoken : Spoken → Answer
 toldSpoken (barred n) = refused n 0
-toldSpoken (phones ps) = accepted 0 (length ps)
+toldSpoken (phones source place ps) = acceptedWith source (length ps) place 0
 
 -- the phones at the front of a room, which keeps its bytes past them
 abbrev pub cellsSpoken : Spoken → List ℕ → List ℕ
 cellsSpoken (barred n) room = room
-cellsSpoken (phones ps) room = cellsOf ps ++ drop (16 * length ps) room
+cellsSpoken (phones source place ps) room = cellsOf ps ++ drop (16 * length ps) room
 
 -- the stress behind a phone: its own, else the one before it
 unfoldable pub stressed : ℕ → List ℕ → ℕ

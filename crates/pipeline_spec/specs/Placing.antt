@@ -9,26 +9,26 @@ use Rattle.utterance_spec.specs.Tree.{Word}
 use Rattle.utterance_spec.specs.Sheet.{used, items}
 use Rattle.utterance_spec.specs.Append.{size, appended}
 use Rattle.answers.specs.declared.Answer.{Answer}
-use Rattle.answers.specs.Told.{refused, accepted, written}
+use Rattle.answers.specs.Told.{refused, acceptedWith, written}
 use Rattle.pipeline_spec.specs.Pronounced.{Spoken, barred, phones, said}
 
 -- the sheet has fewer unused items than a word needs (refusal 9)
 abbrev pub isCrowded : List ℕ → Word → Bool
 isCrowded sheet w = leb (items sheet) (used sheet + size w)
 
--- the answer to a word that was pronounced
-abbrev pub placed : List ℕ → Word → Answer
-placed sheet w = if isCrowded sheet w then refused 9 0 else accepted 0 0
+-- the answer to a word that was pronounced: where its letters stopped
+abbrev pub placed : List ℕ → ℕ → Word → Answer
+placed sheet place w = if isCrowded sheet w then refused 9 0 else acceptedWith 0 0 place 0
 
 -- the answer, and the sheet at exit, where only what the word comes to is left to decide
 module _ (sheet word : List ℕ) where
   abbrev pub onSpoken : Spoken → Answer
   onSpoken (barred n) = refused n 0
-  onSpoken (phones ps) = placed sheet (said word ps)
+  onSpoken (phones source place ps) = placed sheet place (said word ps)
 
   abbrev pub withSpoken : Spoken → List ℕ
   withSpoken (barred n) = sheet
-  withSpoken (phones ps) = appended sheet (said word ps)
+  withSpoken (phones source place ps) = appended sheet (said word ps)
 
   -- the sheet at exit: as it was where the word is refused
   abbrev pub sheetSpoken : Spoken → List ℕ

@@ -11,7 +11,8 @@ use Rattle.phoneset.specs.Stress.{digits, isStressed, stress, bare}
 use Rattle.onsets.specs.Onsets.{onsets}
 use Rattle.slots_spec.specs.Slot.{Entry}
 use Rattle.syllabify.specs.Syllables.{marks, syllables}
-use Rattle.lts.specs.Letters.{letters}
+use Rattle.lts.specs.Letters.{letters, stopped}
+use Rattle.answers.specs.Told.{sourceNumber}
 use Rattle.lexicon_spec.specs.Lookup.{Finding, nothing, damaged, found, find, wantedTag}
 use Rattle.utterance_spec.specs.Tree.{Syllable, Word}
 
@@ -29,24 +30,25 @@ abbrev pub tables : List ℕ → List ℕ → List ℕ → List ℕ → List ℕ
 tables lexPhones lexIndex lexData ltsPhones ltsIndex ltsModel =
     record { lexPhones = lexPhones; lexIndex = lexIndex; lexData = lexData; ltsPhones = ltsPhones; ltsIndex = ltsIndex; ltsModel = ltsModel }
 
--- what a word comes to: the number of a refusal, or phones
+-- what a word comes to: the number of a refusal; or its source, the place where its letters stopped (02, S-5), and its phones
 pub data Spoken : Type 0 where
   barred : ℕ → Spoken
-  phones : List (List ℕ) → Spoken
+  phones : ℕ → ℕ → List (List ℕ) → Spoken
 
-abbrev pub onLetters : Option (List (List ℕ)) → Spoken
-onLetters none = barred 6
-onLetters (some ps) = phones ps
+-- the letter trees are the fourth source
+abbrev pub onLetters : Option (List (List ℕ)) → ℕ → Spoken
+onLetters none place = barred 6
+onLetters (some ps) place = phones 4 place ps
 
--- only "none" goes on to the letter trees
-abbrev pub onFinding : Finding → Option (List (List ℕ)) → Spoken
-onFinding nothing fromLetters = onLetters fromLetters
-onFinding damaged fromLetters = barred 6
-onFinding (found s ps) fromLetters = if ltb 96 (length ps) then barred 7 else phones ps
+-- only "none" goes on to the letter trees; where the letters weren't read the place is 0
+abbrev pub onFinding : Finding → Option (List (List ℕ)) → ℕ → Spoken
+onFinding nothing fromLetters place = onLetters fromLetters place
+onFinding damaged fromLetters place = barred 6
+onFinding (found s ps) fromLetters place = if ltb 96 (length ps) then barred 7 else phones (sourceNumber s) 0 ps
 
 unfoldable pub pronounced : Sections → List Entry → List ℕ → List ℕ → Spoken
 pronounced c es word tag =
-    onFinding (find es (c .lexPhones) (c .lexIndex) (c .lexData) word (wantedTag tag)) (letters (c .ltsPhones) (c .ltsIndex) (c .ltsModel) word)
+    onFinding (find es (c .lexPhones) (c .lexIndex) (c .lexData) word (wantedTag tag)) (letters (c .ltsPhones) (c .ltsIndex) (c .ltsModel) word) (stopped word)
 
 -- the last stress among phones, d if there is none
 unfoldable pub lastStress : ℕ → List (List ℕ) → ℕ

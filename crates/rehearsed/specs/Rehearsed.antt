@@ -9,9 +9,9 @@ use mathlib.Core.List.{List, [], _∷_, _++_, map}
 use lib.ListN.{length, drop}
 use mathlib.Core.Option.{some}
 use borrow.Author.Tests.{le-ltb}
-use Rattle.texts.specs.Lists.{every, some as any, place, first}
+use Rattle.texts.specs.Lists.{every, some as any, place, behindLast, first}
 use Rattle.texts.specs.Text.{bytes, folded, isWord, ascii, low, same, is, agree}
-use Rattle.answers.specs.Told.{accepted, sourceNumber}
+use Rattle.answers.specs.Told.{accepted, acceptedWith, sourceNumber}
 use Rattle.records.specs.Records.{records, firstRecords}
 use Rattle.cells.specs.Cells.{cellsOf, cell, text, phonesOf, asciiPhones, shortPhones, shortCell}
 use Rattle.phoneset.specs.Phones.{phones, rowOf, isKnown, isVowel}
@@ -19,7 +19,7 @@ use Rattle.phoneset.specs.Stress.{digits, lastByte, isStressed, stress, bare}
 use Rattle.onsets.specs.Onsets.{onsets, isOnset}
 use Rattle.syllabify.specs.Syllables.{marks as marksOf, cut, joined}
 use Rattle.syllabify.specs.Call.{syllabify, syllabified}
-use Rattle.lts.specs.Letters.{isTrees, letters, upTo, padded}
+use Rattle.lts.specs.Letters.{isTrees, letters, stopped, upTo, padded}
 use Rattle.lts.specs.Call.{predict, predicted}
 use Rattle.addenda.specs.Addenda.{addenda}
 use Rattle.addenda.specs.Find.{isMeant}
@@ -42,8 +42,8 @@ pub data Case : Type 0 where
   marks : List String → String → Case
   -- a phone, its bare phone and its stress, if it has one
   stressed : String → String → String → Case
-  -- a word for which predict gives no phones, whatever the trees
-  unspoken : String → Case
+  -- a word for which predict gives no phones, whatever the trees, and where its letters stop (02, S-5)
+  unspoken : String → ℕ → Case
   -- entries added to a new store, and what a word without a tag then gives, whatever the lexicon: its source and its phones
   looked : List Add → String → Source → List String → Case
 
@@ -64,9 +64,9 @@ Holds (marks ps ms) =
     let buffer : List ℕ = map (λ (d : ℕ). 9) (bytes ms) in
     (syllabify given buffer ≡ accepted 0 (length (bytes ms))) × (syllabified given buffer ≡ bits (bytes ms))
 Holds (stressed p b s) = (bare digits (bytes p) ≡ bytes b) × (stress digits (bytes p) ≡ stressOf (bytes s))
-Holds (unspoken w) =
+Holds (unspoken w stop) =
     (lts-phones lts-index lts-model out : List ℕ) → isTrees lts-phones lts-index lts-model ≡ true
-    → (predict lts-phones lts-index lts-model (bytes w) out ≡ accepted 0 0) × (predicted lts-phones lts-index lts-model (bytes w) out ≡ out)
+    → (predict lts-phones lts-index lts-model (bytes w) out ≡ acceptedWith 0 0 stop 0) × (predicted lts-phones lts-index lts-model (bytes w) out ≡ out)
 Holds (looked adds w s ps) =
     (lex-phones lex-index lex-data bytes-lent out : List ℕ) → isLexicon lex-phones lex-index ≡ true → isStoreLength (length bytes-lent) ≡ true
     → length adds < slots bytes-lent → 16 * length (map bytes ps) ≤ length out
@@ -94,8 +94,8 @@ cases =
     marks ("ae" ∷ "t" ∷ "l" ∷ "ax" ∷ []) "0101" ∷
     stressed "ax11" "ax1" "1" ∷
     stressed "ae2" "ae2" "" ∷
-    unspoken "" ∷
-    unspoken "a#" ∷
+    unspoken "" 0 ∷
+    unspoken "a#" 2 ∷
     looked [] "in" Addenda ("ih" ∷ "n" ∷ []) ∷
     looked [] "," Addenda [] ∷
     looked (entry "lead" "v" ("l" ∷ "iy" ∷ "d" ∷ []) ∷ entry "lead" "n" ("l" ∷ "eh" ∷ "d" ∷ []) ∷ []) "lead" Runtime ("l" ∷ "iy" ∷ "d" ∷ []) ∷
@@ -106,7 +106,7 @@ cases =
 -- a word without letters behind its last "#" needs no tree
 nothing : (lts-phones lts-index lts-model out : List ℕ) (word : List ℕ) → isWord word ≡ true → letters lts-phones lts-index lts-model word ≡ some []
     → isTrees lts-phones lts-index lts-model ≡ true
-    → (predict lts-phones lts-index lts-model word out ≡ accepted 0 0) × (predicted lts-phones lts-index lts-model word out ≡ out)
+    → (predict lts-phones lts-index lts-model word out ≡ acceptedWith 0 0 (stopped word) 0) × (predicted lts-phones lts-index lts-model word out ≡ out)
 unfolding predict predicted cellsOf
 nothing lts-phones lts-index lts-model out word w e t =
     let n = le-ltb (length out) 0 zero-le in
@@ -133,7 +133,7 @@ plain adds word s ps p w f few lex-phones lex-index lex-data b out l n room fits
     rw n (g .taken, a .0, a .1)
 
 pub rehearsed : Each cases
-unfolding cases syllabify syllabified phonesOf cellsOf cell text records firstRecords asciiPhones shortPhones shortCell ascii low every any same is place phones rowOf isVowel onsets isOnset marksOf cut joined lastByte isStressed stress bare isWord folded letters upTo padded isPlain isOwn isKnown book find first isWanted isMeant addenda agree newEntry entryFor addedTag adding without sameKey
+unfolding cases syllabify syllabified phonesOf cellsOf cell text records firstRecords asciiPhones shortPhones shortCell ascii low every any same is place phones rowOf isVowel onsets isOnset marksOf cut joined lastByte isStressed stress bare isWord folded letters stopped behindLast upTo padded isPlain isOwn isKnown book find first isWanted isMeant addenda agree newEntry entryFor addedTag adding without sameKey
 rehearsed = (
   (refl, refl),
   (

@@ -13,7 +13,7 @@ use Rattle.texts.specs.Text.{isWord}
 use Rattle.store_spec.specs.Store.{entries, isSound}
 use Rattle.compiled_spec.specs.Lexicon.{isLexicon}
 use Rattle.check_lexicon.specs.CheckLexicon.{checkLexicon}
-use Rattle.lts.specs.Letters.{isTrees, letters}
+use Rattle.lts.specs.Letters.{isTrees, letters, stopped}
 use Rattle.lts.specs.Call.{predict}
 use Rattle.lexicon_spec.specs.Lookup.{Finding, nothing, damaged, found, wantedTag, find}
 use Rattle.lookup.specs.Lookup.{lookup, lookup-on-entries}
@@ -26,21 +26,21 @@ use Rattle.pipeline_spec.specs.Placing.{isCrowded, placed, onSpoken}
 use Rattle.say_word.specs.SayWord.{sayWord}
 
 -- a word that was pronounced is not refused by 6
-placed-never : (sheet : List ℕ) (w : Word) → placed sheet w .refusal ≡ 6 → ⊥
-placed-never sheet w h =
+placed-never : (sheet : List ℕ) (place : ℕ) (w : Word) → placed sheet place w .refusal ≡ 6 → ⊥
+placed-never sheet place w h =
     cases (isCrowded sheet w)
     (λ e. let z : _≡_ {A = ℕ} 9 6 = rw e at h in omega arith)
     (λ e. let z : _≡_ {A = ℕ} 0 6 = rw e at h in omega arith)
 
 -- what is left of the ways to 6: nothing found, and no phones from the trees
-only-trees : (sheet word : List ℕ) (f : Finding) (o : Option (List (List ℕ))) → Undamaged f → onSpoken sheet word (onFinding f o) .refusal ≡ 6 → (f ≡ nothing) × (o ≡ none)
-only-trees sheet word nothing none u h = (refl, refl)
-only-trees sheet word nothing (some ps) u h = absurd (placed-never sheet (said word ps) h)
-only-trees sheet word damaged o u h = absurd u
-only-trees sheet word (found s ps) o u h =
+only-trees : (sheet word : List ℕ) (f : Finding) (o : Option (List (List ℕ))) (place : ℕ) → Undamaged f → onSpoken sheet word (onFinding f o place) .refusal ≡ 6 → (f ≡ nothing) × (o ≡ none)
+only-trees sheet word nothing none place u h = (refl, refl)
+only-trees sheet word nothing (some ps) place u h = absurd (placed-never sheet place (said word ps) h)
+only-trees sheet word damaged o place u h = absurd u
+only-trees sheet word (found s ps) o place u h =
     cases (ltb 96 (length ps))
     (λ e. let z : _≡_ {A = ℕ} 7 6 = rw e at h in absurd (omega arith))
-    (λ e. absurd (placed-never sheet (said word ps) (rw e at h)))
+    (λ e. absurd (placed-never sheet 0 (said word ps) (rw e at h)))
 
 -- a say word that is refused by 6: lookup says none, and predict is refused by 6, whatever their output
 pub checked-saying : (c : Sections) → checkLexicon (c .lexPhones) (c .lexIndex) (c .lexData) ≡ accepted 1 0 → (store sheet word tag : List ℕ)
@@ -59,7 +59,7 @@ checked-saying c checked store sheet word tag h out =
     let a = both-true lexicon trees t₁ in
     let b = both-true (isSound store) (isSheet sheet) t₂ in
     let d = both-true (isWord word) (isWord tag) t₃ in
-    let left = only-trees sheet word f o (find-undamaged (c .lexPhones) (c .lexIndex) (c .lexData) checked (entries store) word (wantedTag tag)) (rw (t₁, t₂, t₃) at h) in
+    let left = only-trees sheet word f o (stopped word) (find-undamaged (c .lexPhones) (c .lexIndex) (c .lexData) checked (entries store) word (wantedTag tag)) (rw (t₁, t₂, t₃) at h) in
     let l = lookup-on-entries (c .lexPhones) (c .lexIndex) (c .lexData) store word tag out (a .0) (b .0) t₃ .0 in
     (rw (left .0) at l, rw (a .1, d .0, left .1)))
     (λ t₃. let z : _≡_ {A = ℕ} 3 6 = rw (t₁, t₂, t₃) at h in absurd (omega arith)))

@@ -1,4 +1,4 @@
--- 01, Store and sheet: say word as a call: its refusals 1, 2, 3, 6, 7 and 9, and the sheet at exit.
+-- 01, Store and sheet: say word as a call, with 02, S-5: its refusals 1, 2, 3, 6, 7 and 9, the place where the letters stopped, and the sheet at exit.
 -- Assumes nothing.
 use Prim.Native.Nat.{ℕ}
 use mathlib.Core.Bool.{not, _&&_}

@@ -4,3 +4,4 @@ pub mod Same
 pub mod Largest
 pub mod Folding
 pub mod Mixed
+pub mod Last

@@ -1,12 +1,12 @@
 -- Tests over lists: at each element, at some, the place of the first that passes; and one law for each turn of a loop that makes them.
 -- Assumes nothing.
-use Prim.Native.Nat.{ℕ, zero, suc, _+_, _≤_, _<_}
+use Prim.Native.Nat.{ℕ, zero, suc, _+_, _-_, _≤_, _<_}
 use native.Mathlib.Numerals.{add-one}
 use native.Mathlib.Nat.{not-suc-le-zero, le-of-suc-le-suc}
 use native.Mathlib.Omega.{arith}
 use mathlib.Core.Path.{_≡_, refl, sym, ap}
 use mathlib.Core.Bool.{Bool, true, false, _&&_, _||_, and-assoc}
-use mathlib.Core.List.{List, [], _∷_, _++_, map}
+use mathlib.Core.List.{List, [], _∷_, _++_, map, reverse}
 use mathlib.Core.Option.{Option, none as nothing, some as just}
 use lib.ListN.{length, getD, drop, drop-of-length-le}
 use lib.Seq.{drop-cons}
@@ -27,6 +27,10 @@ module _ {A : Type 0} (f : A → Bool) where
   unfoldable pub place : List A → ℕ
   place [] = 0
   place (x ∷ xs) = if f x then 0 else suc (place xs)
+
+  -- the place just after the last element at which the test passes, 0 where there is none
+  unfoldable pub behindLast : List A → ℕ
+  behindLast l = length l - place (reverse l)
 
   pub every-turn : (l : List A) (i : ℕ) (d : A) → i < length l → f (getD l i d) ≡ true → every (drop i l) ≡ every (drop (i + 1) l)
   unfolding every

@@ -23,6 +23,8 @@ impl Call for Predict {
         &[&["'#' that stops"]],
         ROWS,
         &[&["damage that is not walked", "phone with a stress"]],
+        places::ROWS,
+        &[&["1: '#' in the word", "3: '#' in the word", "6: '#' in the word", "9: '#' that stops"]],
         cells::PHONES,
         &[OUTPUT],
     ];
@@ -59,13 +61,19 @@ impl Call for Predict {
 
     fn rule(&self, input: &Input, met: &mut Met) -> Ruling {
         let mut walks = Met::default();
-        refusal(&input.trees, &input.word, &mut walks)?;
-        let phones = ask(|| input.trees.original().predict(ascii(&input.word)))?;
+        let Input { word, trees, .. } = input;
+        refusal(trees, word, &mut walks)
+            .inspect_err(|refusal| met.shared(places::refused(*refusal, word)))?;
+        let phones = ask(|| trees.original().predict(ascii(word)))?;
+        let place = places::beside_the_original(word)?;
         *met = walks;
+        met.all(places::of_letters(word, phones.len()));
         met.add("phone with a stress", phones.iter().any(|p| p.ends_with(['0', '1'])));
         met.all(cells::of_phones(&phones));
         let row = row_of(Self::ANSWERS, &[1, 6, 48], phones.len());
-        Ok(Told::new(Answer::accepted(0, phones.len()), row, vec![cells(&phones)]))
+        let answer = Answer::accepted(0, phones.len()).and(place);
+        let short = places::refused(9, word);
+        Ok(Told { short, ..Told::new(answer, row, vec![cells(&phones)]) })
     }
 
     fn lent<'a>(&self, input: &'a Input) -> Vec<Part<'a>> {
@@ -101,7 +109,7 @@ pub fn refusal(trees: &Trees, given: &[u8], met: &mut Met) -> Result<(), u32> {
     let names = trees.names.as_deref().unwrap_or_default();
     let word = given.to_ascii_lowercase();
     let padded = [b"000#", &word[..], b"#000"].concat();
-    let first = word.iter().rposition(|b| *b == b'#').map_or(0, |at| at + 1);
+    let first = places::place(given);
     met.all(words::of_word(given));
     met.add("'#' that stops", first > 0);
     for at in (first..word.len()).rev() {
@@ -136,7 +144,9 @@ fn edges() -> Vec<Input> {
         let deepest = Rc::new(tree_shapes::deepest(random, leaves));
         (b'a'..=b'z').map(|letter| input(&deepest, [letter], Size::Exact))
     };
-    [sizes, ranks, deepest].concat()
+    let leaf = Rc::new(tree_edges::one_leaf(b"x-y-z"));
+    let marked = words::marked().into_iter().map(|word| input(&leaf, word, Size::Exact));
+    [sizes, ranks, deepest, marked.collect()].concat()
 }
 
 /// Words with letters left out, or one letter made an "a".

@@ -41,6 +41,8 @@ impl Call for SayWord {
             &["anything in unused items"],
             &["6: compiled entry", "6: letter tree"],
         ],
+        places::ROWS,
+        places::UNTOLD,
         sheets::UNSOUND,
         stores::UNSOUND,
     ];
@@ -90,14 +92,19 @@ impl Call for SayWord {
     }
 
     fn rule(&self, input: &Input, met: &mut Met) -> Ruling {
-        let origin = origin(input, met)?;
+        let given = &input.wanted.word;
+        let origin = origin(input, met)
+            .inspect_err(|refusal| met.shared(places::refused(*refusal, given)))?;
         let word = said(input, &origin)?;
+        let place = rule::place(&origin, given)?;
         let before = sheets::read(&input.sheet).expect("the sheet is sound");
         let unused = sheets::room(&input.sheet) - sheets::used(&before);
         let why = || rule::by_7_or_9(input, &word, unused);
         met.refuse(7, origin.phones.len() > lookup::LONGEST, why)
             .and_then(|()| met.refuse(9, word.items() > unused, why))
+            .inspect_err(|refusal| met.shared(places::refused(*refusal, &given[..place])))
             .map_err(|refusal| Stop::RefusedBeside(refusal, 0))?;
+        met.all(rule::stopped(&origin, given));
         met.all(rule::spoken(&origin, &word));
         met.all(rule::digits(&origin, &word));
         met.all(cells::of_phones(&bare(&origin)));
@@ -105,7 +112,7 @@ impl Call for SayWord {
         met.shared(input.wanted.met());
         met.shared(sheet_edges::features(&input.sheet, &before));
         let after = sheets::with_word(&input.sheet, &before, &word);
-        Ok(Told::new(Answer::accepted(0, 0), origin.row, vec![after]))
+        Ok(Told::new(Answer::accepted(0, 0).and(place), origin.row, vec![after]))
     }
 
     fn lent<'a>(&self, input: &'a Input) -> Vec<Part<'a>> {

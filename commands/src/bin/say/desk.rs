@@ -51,6 +51,8 @@ impl Word {
 pub struct Said {
     /// None is the letters.
     pub source: Option<Source>,
+    /// Where its letters stopped; 0 if they were not read.
+    pub place: usize,
     pub has_phones: bool,
     /// Its syllables, each behind its stress.
     reading: String,
@@ -114,8 +116,9 @@ impl Desk<'_> {
         let mut items = vec![0; LARGEST_BYTES];
         let mut sheet = Sheet::new_sheet(&mut items)?;
         let (lexicon, letters) = (&self.lexicon, &self.letters);
-        sheet.say_word(lexicon, letters, &self.store, &word.text, &word.tag)?;
-        Ok(Said { source, has_phones: sheet.phones().next().is_some(), reading: reading(&sheet) })
+        let said = sheet.say_word(lexicon, letters, &self.store, &word.text, &word.tag)?;
+        let has_phones = sheet.phones().next().is_some();
+        Ok(Said { source, place: said.place(), has_phones, reading: reading(&sheet) })
     }
 }
 

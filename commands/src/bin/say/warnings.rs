@@ -11,7 +11,11 @@ pub fn of(desk: &Desk, word: &Word, said: &Said) -> Option<String> {
         return None;
     }
     let name = quoted(&word.field());
-    if let Some(found) = found_plainly(desk, word) {
+    let found = found_plainly(desk, word);
+    if said.place > 0 {
+        return Some(stopped(word, said, found));
+    }
+    if let Some(found) = found {
         return Some(format!(
             "{name} is not in the lexicon, but {found} is: type that, or use --plain"
         ));
@@ -23,8 +27,7 @@ pub fn of(desk: &Desk, word: &Word, said: &Said) -> Option<String> {
     }
     if let Some(left_out) = left_out(&word.text) {
         return Some(format!(
-            "{name} was read without {}: write that as it is spoken, or add an entry (--entries)",
-            quoted(&left_out)
+            "{name} was read without {left_out}: write that as it is spoken, or add an entry (--entries)"
         ));
     }
     if let Ok(false) = desk.sayable.is_sayable(&word.text) {
@@ -33,6 +36,26 @@ pub fn of(desk: &Desk, word: &Word, said: &Said) -> Option<String> {
         ));
     }
     None
+}
+
+/// Of a word with "#": what was read. No entry can be typed for it, since "#" begins a remark there.
+fn stopped(word: &Word, said: &Said, found: Option<String>) -> String {
+    let name = quoted(&word.field());
+    let behind = &word.text[said.place..];
+    let read = match behind {
+        [] => "only what stands behind the last \"#\" is read".into(),
+        _ => format!("only {} was read, which stands behind the last \"#\"", quoted(behind)),
+    };
+    let cause = match (said.has_phones, left_out(behind)) {
+        (false, _) => format!("nothing in {name} gave a phone, as {read}"),
+        (true, None) => format!("{name}: {read}"),
+        (true, Some(left_out)) => format!("{name}: {read}, and that without {left_out}"),
+    };
+    let cure = match found {
+        Some(found) => format!("type {found}, which is in the lexicon, or use --plain"),
+        None => "write it all as it is spoken, without \"#\"".into(),
+    };
+    format!("{cause}: {cure}")
 }
 
 /// The word's plain form, if that is found and was not asked for.
@@ -46,11 +69,9 @@ fn found_plainly(desk: &Desk, word: &Word) -> Option<String> {
     is_found.then(|| names.join(" with "))
 }
 
-/// What the letter trees do not read: all up to the last "#", and what is no letter, but for apostrophes.
-fn left_out(word: &[u8]) -> Option<Vec<u8>> {
-    let read = word.iter().rposition(|byte| *byte == b'#').map_or(0, |at| at + 1);
-    let mut left_out = word[..read].to_vec();
-    let behind = word[read..].iter();
-    left_out.extend(behind.filter(|byte| !byte.is_ascii_alphabetic() && **byte != b'\''));
-    (!left_out.is_empty()).then_some(left_out)
+/// What the letter trees do not read: what is no letter, but for apostrophes.
+fn left_out(letters: &[u8]) -> Option<String> {
+    let is_left_out = |byte: &u8| !byte.is_ascii_alphabetic() && *byte != b'\'';
+    let left_out: Vec<u8> = letters.iter().copied().filter(is_left_out).collect();
+    (!left_out.is_empty()).then(|| quoted(&left_out))
 }

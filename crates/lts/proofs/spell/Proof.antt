@@ -1,19 +1,21 @@
--- `lts::spell` meets its contract: the loop goes leftwards over the padded word. Assumes nothing.
+-- `lts::spell` meets its contract: the loop goes leftwards over the padded word, and stops behind its last "#". Assumes nothing.
 use Prim.Native.Nat.{ℕ, _+_, _≤_}
 use native.Mathlib.Omega.{arith}
 use mathlib.Core.Path.{_≡_, refl, sym, ap, _∙_, subst}
+use mathlib.Core.Bool.{true, false}
 use mathlib.Core.List.{List}
 use lib.ListN.{length, getD, length-take}
 use borrow.Author.Tests.{eq-eqb, ne-eqb}
 use Rattle.texts.specs.Text.{is}
 use Rattle.lts.specs.Letters.{padded, letters, upTo, Puts}
+use Rattle.lts.proofs.Stopping.{Left, left-start, left-end, left-stop, left-turn}
 use Rattle.lts.proofs.Leftwards.{Spelling, padded-length, spelling-start, spelling-end, spelling-stop, spelling-damaged, spelling-turn}
 use borrow.Author.Needs.{needs}
 use Rattle.lts.proofs.spell.Statement.{statement}
 use Rattle.lts.proofs.spell.Tie as tie
 
 abbrev Inv-loop : tie.InvT-loop
-Inv-loop phones places index model word list₀ end text left₀ at₀ list left at = (text ≡ padded word) × (left ≤ length word) × (length list ≡ length list₀) × Spelling phones index model text list₀ list (length word) left at
+Inv-loop phones places index model word list₀ end text left₀ at₀ list left at = (text ≡ padded word) × (left ≤ length word) × (length list ≡ length list₀) × Left word left × Spelling phones index model text list₀ list (length word) left at
 
 abbrev μ-loop : tie.MeasureT-loop
 μ-loop phones places index model word list₀ end text left₀ at₀ list left at = left
@@ -34,7 +36,7 @@ loop-holds : tie.Need-loop-holds Inv-loop μ-loop
 loop-holds c =
     let a = c .before .before .before .before .before .before .before .before .args in
     let e : _ ≡ padded (a .word .now) = c .before .padded .ensures in
-    (e, omega arith, refl, spelling-start (a .phones .now) (a .index .now) (a .model .now) _ (a .list .now) (length (a .word .now)) (omega arith))
+    (e, omega arith, refl, left-start (a .word .now), spelling-start (a .phones .now) (a .index .now) (a .model .now) _ (a .list .now) (length (a .word .now)) (omega arith))
 
 add-k : tie.Need-add-k Inv-loop μ-loop
 add-k c = search needs
@@ -53,9 +55,10 @@ unfolding letters is
 returns c =
     let l = c .before .before .before .loop in
     let a = c .before .before .before .before .before .before .before .before .before .before .before .before .args in
-    rw (← l .inv .0)
-    (spelling-stop (a .phones .now) (a .index .now) (a .model .now) _ (a .list .now) (l .list) (length (a .word .now)) (l .left) (l .at) (l .inv .3)
-    (omega arith) (eq-eqb _ 35 (c .if1 .taken)))
+    let h : is 35 (getD (padded (a .word .now)) (l .left + 3) 0) ≡ true = rw (← l .inv .0) (eq-eqb _ 35 (c .if1 .taken)) in
+    rw (left-stop (a .word .now) (l .left) (l .inv .3) (omega arith) (l .inv .1) h, ← l .inv .0)
+    (spelling-stop (a .phones .now) (a .index .now) (a .model .now) _ (a .list .now) (l .list) (length (a .word .now)) (l .left) (l .at) (l .inv .4)
+    (l .left) (omega arith) (eq-eqb _ 35 (c .if1 .taken)))
 
 put-letter-requires : tie.Need-put-letter-requires Inv-loop μ-loop
 put-letter-requires c κs =
@@ -63,7 +66,7 @@ put-letter-requires c κs =
     let q = c .before .before .before .before .before .before .before .before .before .before .before .before .before in
     let t = ap (λ (x : List ℕ). length x) (l .inv .0) in
     let p = padded-length (q .args .word .now) in
-    let s = l .inv .3 in
+    let s = l .inv .4 in
     let r = s .room in
     let n = s .count in
     (q .pre .0 .0, ((omega arith, omega arith), ((omega arith, omega (arith, q .pre)), q .pre .1)))
@@ -84,8 +87,8 @@ returns-2 c =
     let a = c .before .before .before .before .before .before .before .before .before .before .before .before .before .before .before .before .before .before .args in
     let p = c .before .before .before .before .put-letter in
     rw (← l .inv .0)
-    (spelling-damaged (a .phones .now) (a .index .now) (a .model .now) _ (a .list .now) (l .list) (length (a .word .now)) (l .left) (l .at) (l .inv .3)
-    (omega arith) (ne-eqb _ 35 (c .before .before .before .before .before .before .if1 .left)) (p .last .1 .1 .1 .1 .1 .1 .0) (p .result) (p .ensures) (c .enum-told .given .1))
+    (spelling-damaged (a .phones .now) (a .index .now) (a .model .now) _ (a .list .now) (l .list) (length (a .word .now)) (l .left) (l .at) (l .inv .4)
+    (omega arith) (ne-eqb _ 35 (c .before .before .before .before .before .before .if1 .left)) (p .last .1 .1 .1 .1 .1 .1 .0) (p .result) _ (p .ensures) (c .enum-told .given .1))
 
 sub-left : tie.Need-sub-left Inv-loop μ-loop
 sub-left c = search needs
@@ -98,11 +101,13 @@ unfolding is
 loop-again c =
     let l = c .before .before .before .before .before .before .before .before .before .before .loop in
     let a = c .before .before .before .before .before .before .before .before .before .before .before .before .before .before .before .before .before .before .before .args in
-    let p = c .before .before .before .before .before .put-letter in (
+    let p = c .before .before .before .before .before .put-letter in
+    let h : is 35 (getD (padded (a .word .now)) (l .left + 3) 0) ≡ false = rw (← l .inv .0) (ne-eqb _ 35 (c .before .before .before .before .before .before .before .if1 .left)) in (
       l .inv .0,
       omega arith,
       omega (arith, p .kept .1 .1 .1 .1 .1 .1 .0),
-      spelling-turn (a .phones .now) (a .index .now) (a .model .now) _ (a .list .now) (l .list) (length (a .word .now)) (l .left) (l .at) (l .inv .3)
+      left-turn (a .word .now) (l .left) (l .inv .3) (omega arith) (l .inv .1) h,
+      spelling-turn (a .phones .now) (a .index .now) (a .model .now) _ (a .list .now) (l .list) (length (a .word .now)) (l .left) (l .at) (l .inv .4)
           (omega arith) (ne-eqb _ 35 (c .before .before .before .before .before .before .before .if1 .left)) (p .last .1 .1 .1 .1 .1 .1 .0) (p .result) (c .before .first .given .0 .0) (p .ensures) (c .before .first .given .1),
     )
 
@@ -114,8 +119,8 @@ unfolding letters
 returns-3 c =
     let l = c .before .loop in
     let a = c .before .before .before .before .before .before .before .before .before .before .args in
-    rw (← l .inv .0)
-    (spelling-end (a .phones .now) (a .index .now) (a .model .now) _ (a .list .now) (l .list) (length (a .word .now)) (l .left) (l .at) (l .inv .3) (omega arith))
+    rw (left-end (a .word .now) (l .left) (l .inv .3) (omega arith), ← l .inv .0)
+    (spelling-end (a .phones .now) (a .index .now) (a .model .now) _ (a .list .now) (l .list) (length (a .word .now)) (l .left) (l .at) (l .inv .4) (l .left) (omega arith))
 
 pub spell-spec : {M : Type 1} → statement M
 spell-spec =

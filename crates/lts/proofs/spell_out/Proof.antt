@@ -8,23 +8,27 @@ use lib.Seq.{paste}
 use borrow.Author.Tests.{lt-ltb, le-ltb}
 use Rattle.records.specs.Records.{part-from, paste-front}
 use Rattle.cells.specs.Cells.{cellsOf}
-use Rattle.lts.specs.Letters.{letters}
+use Rattle.answers.specs.Told.{acceptedWith}
+use Rattle.lts.specs.Letters.{letters, stopped}
 use Rattle.lts.proofs.Found.{Found, found, damage}
 use borrow.Author.Needs.{needs}
 use Rattle.lts.proofs.spell_out.Statement.{statement}
 use Rattle.lts.proofs.spell_out.Tie as tie
 
+told : (m n p q : ℕ) → m ≡ n → p ≡ q → acceptedWith 0 m p 0 ≡ acceptedWith 0 n q 0
+told m n p q e f = rw (e, f)
+
 -- the phones, where all letters were read
 known : (c : tie.After-known-told) →
     let s = c .before .before .before .before .before .before .before .before .before .before .before .before .before .before in
     let a = s .args in
-    Found (letters (a .phones .now) (a .index .now) (a .model .now) (a .word .now)) (c .before .first .given .0 .0) (c .before .before .before .before .before .spell .last .1 .1 .1 .1 .1 .0)
+    Found (letters (a .phones .now) (a .index .now) (a .model .now) (a .word .now)) (stopped (a .word .now)) (c .before .first .given .0 .0) (c .before .first .given .0 .1 .0) (c .before .before .before .before .before .spell .last .1 .1 .1 .1 .1 .0)
 known c =
     let s = c .before .before .before .before .before .before .before .before .before .before .before .before .before .before in
     let a = s .args in
     let p = c .before .before .before .before .before .spell in
-    found (letters (a .phones .now) (a .index .now) (a .model .now) (a .word .now)) (a .list .now) (p .last .1 .1 .1 .1 .1 .0) (p .result)
-    (c .before .first .given .0 .0) (s .pre .0 .2) (omega (arith, p .kept .1 .1 .1 .1 .1 .0, s .pre .0 .2)) (p .ensures) (c .before .first .given .1)
+    found (letters (a .phones .now) (a .index .now) (a .model .now) (a .word .now)) (stopped (a .word .now)) (a .list .now) (p .last .1 .1 .1 .1 .1 .0) (p .result)
+    (c .before .first .given .0 .0) (c .before .first .given .0 .1 .0) (s .pre .0 .2) (omega (arith, p .kept .1 .1 .1 .1 .1 .0, s .pre .0 .2)) (p .ensures) (c .before .first .given .1)
 
 spell-requires : tie.Need-spell-requires
 spell-requires c κs = search needs
@@ -42,7 +46,7 @@ returns : tie.Need-returns
 returns c =
     let a = c .before .before .before .before .before .before .before .before .before .before .before .before .before .args in
     let L = letters (a .phones .now) (a .index .now) (a .model .now) (a .word .now) in
-    let d = damage L (a .list .now) (c .before .before .before .before .spell .last .1 .1 .1 .1 .1 .0) (c .before .before .before .before .spell .result) (c .before .before .before .before .spell .ensures) (c .enum-told .given .1) in
+    let d = damage L (stopped (a .word .now)) (a .list .now) (c .before .before .before .before .spell .last .1 .1 .1 .1 .1 .0) (c .before .before .before .before .spell .result) (c .before .before .before .before .spell .ensures) (c .enum-told .given .1) in
     (rw d, rw d)
 
 sub-n : tie.Need-sub-n
@@ -95,7 +99,7 @@ returns-3 c =
     let e : 94 - c .before .before .before .before .before .before .before .before .first .given .0 .0 ≡ length (f .phones) = omega arith in
     let t = le-ltb (length out) (16 * length (f .phones)) (omega arith) in
     let w = c .before .before .copy-in .ensures ∙ ap (λ (s : List ℕ). paste out 0 s (length s)) (part-from from list ∙ f .cells) ∙ paste-front out (cellsOf (f .phones)) in
-    (rw (f .is, t, e), rw (f .is, t) (rw (f .size) at w))
+    (rw (f .is, t) (told _ _ _ _ e (f .stopped)), rw (f .is, t) (rw (f .size) at w))
 
 pub spell-out-spec : {M : Type 1} → statement M
 spell-out-spec =

@@ -12,7 +12,7 @@ use Rattle.texts.specs.Lists.{every, some as someOf}
 use Rattle.texts.specs.Text.{isPhone}
 use Rattle.phoneset.specs.Stress.{digits, lastByte, isStressed, stress}
 use Rattle.slots_spec.specs.Slot.{Entry, fits}
-use Rattle.lts.specs.Letters.{letters, isTrees, trees-table}
+use Rattle.lts.specs.Letters.{letters, stopped, isTrees, trees-table}
 use Rattle.compiled_spec.specs.Lexicon.{isLexicon, lexicon-table}
 use Rattle.lexicon_spec.specs.Lookup.{Finding, nothing, damaged, found, find, wantedTag}
 use Rattle.pipeline_spec.specs.Pronounced.{Sections, Spoken, barred, phones, onFinding, pronounced}
@@ -34,26 +34,26 @@ digit p h = rw h (one-of (lastByte p) (unfold isStressed in h))
 -- what was pronounced
 abbrev Fits : Spoken → Type 0
 Fits (barred n) = Unit {0}
-Fits (phones ps) = every isPhone ps ≡ true
+Fits (phones source place ps) = every isPhone ps ≡ true
 
-letters-spoken : (o : Option (List (List ℕ))) → AreFit o → Fits (onFinding nothing o)
-letters-spoken none h = tt
-letters-spoken (some ps) h = h
+letters-spoken : (o : Option (List (List ℕ))) (place : ℕ) → AreFit o → Fits (onFinding nothing o place)
+letters-spoken none place h = tt
+letters-spoken (some ps) place h = h
 
 -- a refused lookup is never sent to the letter trees
-refused-lookup : (o : Option (List (List ℕ))) → onFinding damaged o ≡ barred 6
-refused-lookup o = refl
+refused-lookup : (o : Option (List (List ℕ))) (place : ℕ) → onFinding damaged o place ≡ barred 6
+refused-lookup o place = refl
 
-finding-spoken : (f : Finding) (o : Option (List (List ℕ))) → Fit f → AreFit o → Fits (onFinding f o)
-finding-spoken nothing o h k = letters-spoken o k
-finding-spoken damaged o h k = subst Fits (sym (refused-lookup o)) tt
-finding-spoken (found s ps) o h k = cases (ltb 96 (length ps)) (λ e. rw e tt) (λ e. rw e h)
+finding-spoken : (f : Finding) (o : Option (List (List ℕ))) (place : ℕ) → Fit f → AreFit o → Fits (onFinding f o place)
+finding-spoken nothing o place h k = letters-spoken o place k
+finding-spoken damaged o place h k = subst Fits (sym (refused-lookup o place)) tt
+finding-spoken (found s ps) o place h k = cases (ltb 96 (length ps)) (λ e. rw e tt) (λ e. rw e h)
 
 module _ (c : Sections) (es : List Entry) (word tag : List ℕ) (h : every fits es ≡ true) (lexicon : isLexicon (c .lexPhones) (c .lexIndex) ≡ true) (trees : isTrees (c .ltsPhones) (c .ltsIndex) (c .ltsModel) ≡ true) where
-  pub pronounced-fits : (ps : List (List ℕ)) → pronounced c es word tag ≡ phones ps → every isPhone ps ≡ true
+  pub pronounced-fits : (source place : ℕ) (ps : List (List ℕ)) → pronounced c es word tag ≡ phones source place ps → every isPhone ps ≡ true
   unfolding pronounced
-  pronounced-fits ps e =
+  pronounced-fits source place ps e =
       subst Fits e
-      (finding-spoken (find es (c .lexPhones) (c .lexIndex) (c .lexData) word (wantedTag tag)) (letters (c .ltsPhones) (c .ltsIndex) (c .ltsModel) word)
+      (finding-spoken (find es (c .lexPhones) (c .lexIndex) (c .lexData) word (wantedTag tag)) (letters (c .ltsPhones) (c .ltsIndex) (c .ltsModel) word) (stopped word)
       (find-fit es (c .lexPhones) (c .lexIndex) (c .lexData) word (wantedTag tag) h (lexicon-table (c .lexPhones) (c .lexIndex) lexicon))
       (letters-fit (c .ltsPhones) (c .ltsIndex) (c .ltsModel) (trees-table (c .ltsPhones) (c .ltsIndex) (c .ltsModel) trees) word))

@@ -26,6 +26,8 @@ pub struct Book<'a> {
 #[derive(Default)]
 pub struct Sheet {
     wanted: Vec<Wanted>,
+    /// The places that they told.
+    places: Vec<u64>,
     /// The words that were said before the last add, and their phone strings.
     said: Vec<Word>,
     strings: Vec<String>,
@@ -101,6 +103,10 @@ impl Side for Book<'_> {
             if accepted {
                 self.take(act)?;
             }
+            if let Act::SayWord(wanted) = act {
+                self.met.all(marked(&wanted.word, &outcome.answer));
+                self.sheet.places.extend(accepted.then_some(outcome.answer.second));
+            }
         }
         Ok(outcome)
     }
@@ -124,12 +130,26 @@ impl Side for Book<'_> {
 }
 
 rows! { pub ROWS:
+    /// What a word has that is said, accepted or refused.
+    marked(word: &[u8], answer: &Answer) {
+        let is_marked = places::place(word) > 0;
+        let untold = is_marked && answer.second == 0;
+    } [
+        "say_word: place told" => answer.second > 0,
+        "say_word: '#' in a found word" => untold && answer.refusal == 0,
+        "say_word: '#' in a refused word" => untold && answer.refusal > 0,
+    ]
+
     /// What the words of a sheet met.
     utterance(sheet: &Sheet) {
         let said: Vec<_> = sheet.wanted.iter().zip(&sheet.said).collect();
         let otherwise = |i: usize| {
             let mut later = said[i + 1..].iter();
             later.any(|(wanted, word)| *wanted == said[i].0 && *word != said[i].1)
+        };
+        let found = |i: usize| {
+            let mut later = sheet.wanted.iter().zip(&sheet.places).skip(i);
+            sheet.places[i] > 0 && later.any(|next| next == (&sheet.wanted[i], &0))
         };
         let words = said.len();
     } [
@@ -141,6 +161,7 @@ rows! { pub ROWS:
         "utterance that saw one list of entries" => sheet.parts == 1,
         "utterance that saw several" => sheet.parts > 1,
         "word that is said otherwise the second time" => (0..words).any(otherwise),
+        "word that tells a place, then is found" => (0..words).any(found),
         "text that stops behind lines taken, then a word" => sheet.behind_stop,
     ]
 }

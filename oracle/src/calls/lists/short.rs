@@ -6,10 +6,16 @@ use crate::prelude::*;
 use crate::sheets::LARGEST;
 use crate::tree_edges::one_leaf;
 
+fn say(word: &str, tag: &str) -> Act {
+    Act::SayWord(Wanted::new(word, tag))
+}
+
+fn add(word: &str, tag: &str, phones: &str) -> Act {
+    Act::AddEntry(store_edges::add(word, tag, phones))
+}
+
 /// One call of each answer, and words that the others change.
 fn calls() -> [Step; 10] {
-    let say = |word: &str, tag: &str| Act::SayWord(Wanted::new(word, tag));
-    let add = |word, tag, phones| Act::AddEntry(store_edges::add(word, tag, phones));
     let text = |text: &str| Act::AddText { text: text.into(), fill: 0x9e, spare: None };
     let acts = [
         Act::NewSheet,
@@ -23,6 +29,12 @@ fn calls() -> [Step; 10] {
         say("c", ""),
         say(&"a".repeat(48), ""),
     ];
+    acts.map(|act| Step { act, broken: false })
+}
+
+/// Words with "#" that tell a place, until they are added; one of the addenda.
+fn marked() -> [Step; 5] {
+    let acts = [Act::NewSheet, say("a#B", ""), say("#", "n"), add("A#b", "", "s"), say("b##", "v")];
     acts.map(|act| Step { act, broken: false })
 }
 
@@ -59,6 +71,7 @@ pub fn inputs() -> Vec<Input> {
     let mut broken = steps(&[1, 4, 1, 6, 2]);
     broken[2].broken = true;
     broken[3].broken = true;
+    let marked = words::every(&marked(), 4).into_iter().map(|steps| list(steps, 2, 40 * ITEM));
     let ends = [list(steps(&full), 1, LARGEST), list(broken, 4, 40 * ITEM)];
-    [every, lengths, ends.into()].concat()
+    [every, lengths, ends.into(), marked.collect()].concat()
 }

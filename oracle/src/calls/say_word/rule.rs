@@ -44,7 +44,32 @@ pub fn origin(input: &Input, met: &mut Met) -> Result<Origin, u32> {
     Ok(Origin { row: "letters", phones: phones.iter().map(|phone| (*phone).into()).collect() })
 }
 
+/// The place where the letters of a word stopped, 0 where they were not read.
+pub fn place(origin: &Origin, word: &[u8]) -> Result<usize, String> {
+    match origin.row {
+        "letters" => places::beside_the_original(word),
+        _ => Ok(0),
+    }
+}
+
+/// What an accepted word has, read by letters or not.
+pub fn stopped(origin: &Origin, word: &[u8]) -> Vec<&'static str> {
+    match origin.row {
+        "letters" => places::of_letters(word, origin.phones.len()),
+        source => unread(source, word),
+    }
+}
+
 rows! { pub ROWS:
+    /// What a word has that lookup finds in a source, so that its letters are not read.
+    unread(source: &str, word: &[u8]) {
+        let marked = places::place(word) > 0;
+    } [
+        "runtime: '#' in the word" => marked && source == "runtime",
+        "addenda: '#' in the word" => marked && source == "addenda",
+        "compiled: '#' in the word" => marked && source == "compiled",
+    ]
+
     /// Which sections are refused by 1, by what lookup says without the letter trees.
     by_1(found: &Result<Option<Origin>, u32>) [
         "1: lexicon" => matches!(found, Err(1)),

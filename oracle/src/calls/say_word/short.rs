@@ -9,7 +9,8 @@ use crate::sheet_edges::in_order;
 use crate::tree_edges::one_leaf;
 
 pub fn inputs() -> Vec<Input> {
-    [sheets(), short_lists(), exact_lengths(), addenda(), other_sections(), edges()].concat()
+    let words = [short_lists(), exact_lengths(), addenda(), marked()].concat();
+    [sheets(), words, other_sections(), edges()].concat()
 }
 
 /// A word on a sheet, said with the sections of another.
@@ -154,4 +155,20 @@ fn edges() -> Vec<Input> {
         for Wanted { word, tag } in words::limits(&["Lead", "b", "a", "in", "qq"]);
         [input(&sections, sheet, word, tag)]
     }
+}
+
+/// Words with "#": of the most bytes by letters; short ones by letters and in every source, with and without room.
+fn marked() -> Vec<Input> {
+    let rows = [row("#a", b'n', &[0]), row("B#", b'v', &[0, 0])];
+    let empty = Scene::of(Lexicon::of(&["ey1"], &rows), stores::new(3, 0));
+    let adds = [store_edges::add("a#B", "n", "s"), store_edges::add("#", "v", "t")];
+    let sections = without_word(empty.with_store(empty.grown(&adds)), one_leaf(b"x-y"));
+    let short = each! {
+        for word in words::every(b"aB#", 3);
+        for tag in ["", "n", "v"];
+        [40, 1].map(|items| input(&sections, &new_sheet(items * ITEM), &word, tag))
+    };
+    let sheet = new_sheet(100 * ITEM);
+    let long = words::marked().into_iter().map(|word| input(&sections, &sheet, word, ""));
+    short.into_iter().chain(long).collect()
 }

@@ -11,7 +11,7 @@ use denote.Enum.Declared.{tagOf}
 use Rattle.answers.specs.declared.Looked.{Looked}
 use Rattle.answers.specs.declared.Looked.the-variants.{Refused, Nothing, Found}
 use Rattle.answers.specs.Told.{toldLooked}
-use Rattle.lts.specs.Letters.{letters}
+use Rattle.lts.specs.Letters.{letters, stopped}
 use Rattle.store_spec.specs.Store.{entries}
 use Rattle.lexicon_spec.specs.Lookup.{Finding, find, wantedTag, toldFinding, outFinding}
 use Rattle.pipeline_spec.specs.Pronounced.{pronounced}
@@ -52,7 +52,7 @@ unfolding pronounced
 returns c =
     let a = c .before .before .before .before .before .before .before .before .before .before .before .before .before .before .before .before .before .before .before .before .args in
     let t = told (c .before .before .before .before .before) in
-    let d = lookup-refused (finding (c .before .before .before .before .before)) (letters (a .sounds .now) (a .starts .now) (a .model .now) (a .word .now)) (a .room .now) (c .before .before .before .before .before .before .before .before .before .before .before .before .before .before .before .before .before .before .before .before .pre .1 .0 .2) (c .before .looked .given .0 .0) (ap toldLooked (sym (c .before .looked .given .1)) ∙ t .0) in
+    let d = lookup-refused (finding (c .before .before .before .before .before)) (letters (a .sounds .now) (a .starts .now) (a .model .now) (a .word .now)) (stopped (a .word .now)) (a .room .now) (c .before .before .before .before .before .before .before .before .before .before .before .before .before .before .before .before .before .before .before .before .pre .1 .0 .2) (c .before .looked .given .0 .0) (ap toldLooked (sym (c .before .looked .given .1)) ∙ t .0) in
     (d .0, t .1 ∙ d .1)
 
 same-length-2 : tie.Need-same-length-2
@@ -64,7 +64,7 @@ returns-2 c =
     let a = c .before .before .before .before .before .before .before .before .before .before .before .before .before .before .before .before .before .before .before .before .before .before .args in
     let t = told (c .before .before .before .before .before .before .before) in
     let o = letters (a .sounds .now) (a .starts .now) (a .model .now) (a .word .now) in
-    let d = lookup-followed (finding (c .before .before .before .before .before .before .before)) (length (a .word .now)) o (a .room .now) (c .before .before .before .before .before .before .before .before .before .before .before .before .before .before .before .before .before .before .before .before .before .before .pre .1 .0 .2) (c .before .before .before .before .before .before .before .before .before .before .before .before .before .before .before .before .before .before .before .before .before .before .pre .1 .0 .1) (letters-few (a .sounds .now) (a .starts .now) (a .model .now) (a .word .now)) (c .before .before .before .before .before .before .before .find .result) (not-refused (c .before .before .before .before .before .before .before .find .result) (c .before .before .before .before .match .keys2)) (t .0) in
+    let d = lookup-followed (finding (c .before .before .before .before .before .before .before)) (length (a .word .now)) o (stopped (a .word .now)) (a .room .now) (c .before .before .before .before .before .before .before .before .before .before .before .before .before .before .before .before .before .before .before .before .before .before .pre .1 .0 .2) (c .before .before .before .before .before .before .before .before .before .before .before .before .before .before .before .before .before .before .before .before .before .before .pre .1 .0 .1) (letters-few (a .sounds .now) (a .starts .now) (a .model .now) (a .word .now)) (c .before .before .before .before .before .before .before .find .result) (not-refused (c .before .before .before .before .before .before .before .find .result) (c .before .before .before .before .match .keys2)) (t .0) in
     let r = t .1 in
     (c .before .before .spoken .ensures .0 ∙ rw r (d .0), c .before .before .spoken .ensures .1 ∙ rw r (d .1))
 

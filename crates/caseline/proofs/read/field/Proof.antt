@@ -1,15 +1,15 @@
--- `caseline::read::token` is safe and ends. Assumes nothing.
+-- `caseline::read::field` is safe and ends. Assumes nothing.
 use Prim.Native.Nat.{_≤_}
 use lib.ListN.{length}
 use borrow.Author.Needs.{needs}
-use Rattle.caseline.proofs.read.token.Statement.{statement}
-use Rattle.caseline.proofs.read.token.Tie as tie
+use Rattle.caseline.proofs.read.field.Statement.{statement}
+use Rattle.caseline.proofs.read.field.Tie as tie
 
 abbrev Inv-loop : tie.InvT-loop
-Inv-loop line k from₀ left₀ from left = from ≤ length line
+Inv-loop text k b from₀ left₀ from left = from ≤ length text
 
 abbrev μ-loop : tie.MeasureT-loop
-μ-loop line k from₀ left₀ from left = left
+μ-loop text k b from₀ left₀ from left = left
 
 loop-holds : tie.Need-loop-holds Inv-loop μ-loop
 loop-holds c = search needs
@@ -44,8 +44,8 @@ part-requires-2 c κs = search needs
 returns-2 : tie.Need-returns-2 Inv-loop μ-loop
 returns-2 c = search needs
 
-pub token-spec : {M : Type 1} → statement M
-token-spec =
+pub field-spec : {M : Type 1} → statement M
+field-spec =
     tie.close
     (tie.spec
     Inv-loop
