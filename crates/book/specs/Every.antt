@@ -17,7 +17,7 @@ use Rattle.new_store.specs.NewStore.{newStore, newBytes as newStoreBytes}
 use Rattle.store_spec.specs.Sound.{Sound as SoundStore}
 use Rattle.store_spec.specs.Adding.{adding}
 use Rattle.new_store.specs.Fresh.{fresh as freshStore, fresh-sound, fresh-entries}
-use Rattle.lts.specs.Letters.{isTrees}
+use Rattle.lts_spec.specs.Letters.{isTrees}
 use Rattle.compiled_spec.specs.Lexicon.{isLexicon}
 use Rattle.lexicon_spec.specs.Adding.{newEntry}
 use Rattle.add_entry.specs.AddEntry.{addEntry, storeAfter}

@@ -7,7 +7,7 @@ use mathlib.Core.List.{List, [], _∷_, _++_, map, map-append, append-assoc, app
 use lib.ListN.{length, getD, take, drop, set, replicate, length-append, length-map, length-drop, drop-of-length-le}
 use lib.Seq.{take-suc, take-at, set-at, append-snoc, take-length, take-all, length-take-le, paste}
 use Rattle.texts.specs.Text.{bytes, folded}
-use Rattle.lts.specs.Letters.{padded, window}
+use Rattle.lts_spec.specs.Letters.{padded, window}
 
 -- the front of the text once i bytes of the word are in it
 abbrev pub front : List ℕ → ℕ → List ℕ

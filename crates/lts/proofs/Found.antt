@@ -1,12 +1,12 @@
 -- What is known where all of a word's letters were put at the end of a list of 94 cells. Assumes nothing.
-use Prim.Native.Nat.{ℕ, _+_, _-_, _*_, _≤_}
+use Prim.Native.Nat.{ℕ, _+_, _-_, _*_}
 use native.Mathlib.Omega.{arith}
 use mathlib.Core.Path.{_≡_, refl, ap, _∙_}
 use mathlib.Core.List.{List, [], _++_, append-nil}
 use mathlib.Core.Option.{Option, none, some}
 use lib.ListN.{length, drop, length-drop, drop-of-length-le}
 use Rattle.cells.specs.Cells.{cellsOf}
-use Rattle.lts.specs.Letters.{Spells}
+use Rattle.lts.specs.Puts.{Spells}
 use Rattle.lts.specs.declared.Spelled.{Spelled}
 use Rattle.lts.specs.declared.Spelled.the-variants.{From, Damaged}
 

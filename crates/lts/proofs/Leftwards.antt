@@ -18,7 +18,8 @@ use Rattle.cells.specs.Cells.{cell, cellsOf}
 use Rattle.trees.specs.Walk.{walk}
 use Rattle.trees.specs.declared.Walked.{Walked}
 use Rattle.trees.specs.declared.Walked.the-variants.{Phone, Damaged as damaged}
-use Rattle.lts.specs.Letters.{padded, window, spoken, spoken-none, spoken-two, spoken-one, behind, leaf, letter, joined, upTo, letters, Puts, Spells}
+use Rattle.lts_spec.specs.Letters.{padded, window, spoken, spoken-none, spoken-two, spoken-one, behind, leaf, letter, joined, upTo}
+use Rattle.lts.specs.Puts.{Puts, Spells}
 use Rattle.lts.specs.declared.Letters.{Letters}
 use Rattle.lts.specs.declared.Letters.the-variants.{From, Damaged}
 use Rattle.lts.specs.declared.Spelled.the-variants.{From as spelledFrom, Damaged as unspelled}

@@ -9,7 +9,7 @@ use mathlib.Core.Option.{some}
 use lib.ListN.{length, drop}
 use Rattle.records.specs.Records.{putRecord, drop-putRecord, length-putRecord}
 use Rattle.cells.specs.Cells.{cell, cellsOf, length-cell}
-use Rattle.lts.specs.Letters.{Puts}
+use Rattle.lts.specs.Puts.{Puts}
 use Rattle.lts.specs.declared.Letters.the-variants.{From}
 
 -- a phone put as the cell before `at`

@@ -9,9 +9,9 @@ use lib.ListN.{length, getD, take}
 use lib.Seq.{take-length}
 use Rattle.texts.specs.Lists.{behindLast}
 use Rattle.texts.specs.Text.{is}
-use Rattle.texts.specs.Laws.Last.{behind-none, behind-turn, behind-stop}
-use Rattle.lts.specs.Letters.{padded, stopped}
-use Rattle.lts.specs.Stopped.{hash-at}
+use Rattle.lts_spec.specs.Laws.Last.{behind-none, behind-turn, behind-stop}
+use Rattle.lts_spec.specs.Letters.{padded, stopped}
+use Rattle.lts_spec.specs.Stopped.{hash-at}
 
 -- the place, by the bytes left
 abbrev pub Left : List ℕ → ℕ → Type 0

@@ -6,8 +6,9 @@ ghost use mathlib.Core.Option.{some};
 ghost use lib.ListN.{length, take};
 ghost use Rattle.data.specs.Places.{Placed};
 ghost use Rattle.answers.specs.Told.{toldPredicted};
-ghost use Rattle.lts.specs.Letters.{padded as paddedWord, window as windowAt, spoken, letter, letters, stopped, Puts, Spells, isTrees};
-ghost use Rattle.lts.specs.Call.{toldPhones, outPhones, predict as answer, predicted};
+ghost use Rattle.lts_spec.specs.Letters.{padded as paddedWord, window as windowAt, spoken, letter, letters, stopped, isTrees};
+ghost use Rattle.lts.specs.Puts.{Puts, Spells};
+ghost use Rattle.lts_spec.specs.Call.{toldPhones, outPhones, predict as answer, predicted};
 use answers::Predicted;
 use answers::Refusal;
 use trees::Walked;
@@ -120,7 +121,7 @@ fn put_letter(
     }
 }
 
-// The phones of a word, at the end of a list of 94 cells: leftwards from the last byte until "#", whose place is told.
+// The phones of a word, at the end of a list of 94 cells: leftwards from the last byte until "#"; and where that stopped.
 pub fn spell(
     phones: &[u8],
     places: &[u16],

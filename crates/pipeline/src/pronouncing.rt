@@ -6,7 +6,7 @@ ghost use lib.ListN.{length};
 ghost use Rattle.data.specs.Places.{Placed};
 ghost use Rattle.store_spec.specs.Store.{isSound, entries};
 ghost use Rattle.compiled_spec.specs.Lexicon.{isLexicon};
-ghost use Rattle.lts.specs.Letters.{isTrees, letters, stopped};
+ghost use Rattle.lts_spec.specs.Letters.{isTrees, letters, stopped};
 ghost use Rattle.answers.specs.Told.{toldPredicted};
 ghost use Rattle.pipeline_spec.specs.Pronounced.{pronounced, tables};
 ghost use Rattle.pipeline_spec.specs.Cutting.{toldSpoken, cellsSpoken};
@@ -48,9 +48,9 @@ fn spoken(
     Pronounced::Phones(n, 0, answers::source_number(source))
 }
 
-// The phones of a word as cells at the front of a room of 96, its source and where its letters stopped, by the three sections of the lexicon and
-// the three of the letter trees (sounds is lts.phones, starts lts.index); places and spots are those of their tables'
-// phones. A refused lookup refuses the word.
+// The phones of a word as cells at the front of a room of 96, its source and where its letters stopped; by the three
+// sections of the lexicon and the three of the letter trees (sounds is lts.phones, starts lts.index); places and spots are
+// those of their tables' phones. A refused lookup refuses the word.
 pub fn pronounce(
     phones: &[u8],
     places: &[u16],

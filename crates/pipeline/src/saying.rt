@@ -7,7 +7,7 @@ ghost use Rattle.cells.specs.Cells.{phonesOf};
 ghost use Rattle.data.specs.Places.{Placed};
 ghost use Rattle.store_spec.specs.Store.{entries, isSound};
 ghost use Rattle.compiled_spec.specs.Lexicon.{isLexicon};
-ghost use Rattle.lts.specs.Letters.{isTrees};
+ghost use Rattle.lts_spec.specs.Letters.{isTrees};
 ghost use Rattle.utterance_spec.specs.Sheet.{isSound as isSheet};
 ghost use Rattle.utterance_spec.specs.Append.{appended};
 ghost use Rattle.answers.specs.Told.{toldSaid, written};

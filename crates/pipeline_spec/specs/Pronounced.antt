@@ -11,7 +11,7 @@ use Rattle.phoneset.specs.Stress.{digits, isStressed, stress, bare}
 use Rattle.onsets.specs.Onsets.{onsets}
 use Rattle.slots_spec.specs.Slot.{Entry}
 use Rattle.syllabify.specs.Syllables.{marks, syllables}
-use Rattle.lts.specs.Letters.{letters, stopped}
+use Rattle.lts_spec.specs.Letters.{letters, stopped}
 use Rattle.answers.specs.Told.{sourceNumber}
 use Rattle.lexicon_spec.specs.Lookup.{Finding, nothing, damaged, found, find, wantedTag}
 use Rattle.utterance_spec.specs.Tree.{Syllable, Word}

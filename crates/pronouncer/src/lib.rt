@@ -6,7 +6,7 @@ ghost use Rattle.answers.specs.Told.{accepted};
 ghost use Rattle.phoneset.specs.Phones.{isVowel};
 ghost use Rattle.phoneset.specs.Stress.{digits, bare, stress};
 ghost use Rattle.syllabify.specs.Call.{syllabify, syllabified};
-ghost use Rattle.lts.specs.Call.{predict, predicted};
+ghost use Rattle.lts_spec.specs.Call.{predict, predicted};
 ghost use Rattle.language.specs.Call.{isSayable};
 ghost use Rattle.new_store.specs.NewStore.{newStore, newBytes};
 ghost use Rattle.check_lexicon.specs.CheckLexicon.{checkLexicon};

@@ -19,8 +19,8 @@ use Rattle.phoneset.specs.Stress.{digits, lastByte, isStressed, stress, bare}
 use Rattle.onsets.specs.Onsets.{onsets, isOnset}
 use Rattle.syllabify.specs.Syllables.{marks as marksOf, cut, joined}
 use Rattle.syllabify.specs.Call.{syllabify, syllabified}
-use Rattle.lts.specs.Letters.{isTrees, letters, stopped, upTo, padded}
-use Rattle.lts.specs.Call.{predict, predicted}
+use Rattle.lts_spec.specs.Letters.{isTrees, letters, stopped, upTo, padded}
+use Rattle.lts_spec.specs.Call.{predict, predicted}
 use Rattle.addenda.specs.Addenda.{addenda}
 use Rattle.addenda.specs.Find.{isMeant}
 use Rattle.slots_spec.specs.Slot.{Entry}

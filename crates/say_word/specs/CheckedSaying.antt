@@ -13,8 +13,8 @@ use Rattle.texts.specs.Text.{isWord}
 use Rattle.store_spec.specs.Store.{entries, isSound}
 use Rattle.compiled_spec.specs.Lexicon.{isLexicon}
 use Rattle.check_lexicon.specs.CheckLexicon.{checkLexicon}
-use Rattle.lts.specs.Letters.{isTrees, letters, stopped}
-use Rattle.lts.specs.Call.{predict}
+use Rattle.lts_spec.specs.Letters.{isTrees, letters, stopped}
+use Rattle.lts_spec.specs.Call.{predict}
 use Rattle.lexicon_spec.specs.Lookup.{Finding, nothing, damaged, found, wantedTag, find}
 use Rattle.lookup.specs.Lookup.{lookup, lookup-on-entries}
 use Rattle.lookup.specs.CheckedLookup.{Undamaged, find-undamaged}

@@ -5,7 +5,7 @@ use mathlib.Core.Bool.{not, _&&_}
 use mathlib.Core.List.{List}
 use Rattle.texts.specs.Choice.{if_then_else_}
 use Rattle.texts.specs.Text.{isWord}
-use Rattle.lts.specs.Letters.{isTrees}
+use Rattle.lts_spec.specs.Letters.{isTrees}
 use Rattle.store_spec.specs.Store.{entries, isSound}
 use Rattle.compiled_spec.specs.Lexicon.{isLexicon}
 use Rattle.utterance_spec.specs.Sheet.{isSound as isSheet}

@@ -4,4 +4,3 @@ pub mod Same
 pub mod Largest
 pub mod Folding
 pub mod Mixed
-pub mod Last

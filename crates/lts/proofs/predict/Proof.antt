@@ -2,7 +2,7 @@
 use mathlib.Core.Path.{refl, sym, _∙_}
 use borrow.Author.Tests.{not-true, not-false}
 use Rattle.texts.specs.Text.{word-short}
-use Rattle.lts.specs.Call.{predict, predicted}
+use Rattle.lts_spec.specs.Call.{predict, predicted}
 use borrow.Author.Needs.{needs}
 use Rattle.lts.proofs.predict.Statement.{statement}
 use Rattle.lts.proofs.predict.Tie as tie

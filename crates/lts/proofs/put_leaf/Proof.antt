@@ -9,7 +9,7 @@ use lib.ListN.{length, take, drop, length-take, length-drop}
 use Rattle.records.specs.Records.{part-from, length-putRecord}
 use Rattle.texts.specs.Lists.{place}
 use Rattle.texts.specs.Text.{is}
-use Rattle.lts.specs.Letters.{spoken-none, spoken-two, spoken-one}
+use Rattle.lts_spec.specs.Letters.{spoken-none, spoken-two, spoken-one}
 use Rattle.lts.proofs.Put.{puts-none, puts-one, puts-two}
 use borrow.Author.Needs.{needs}
 use Rattle.lts.proofs.put_leaf.Statement.{statement}

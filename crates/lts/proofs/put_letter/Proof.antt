@@ -12,7 +12,8 @@ use Rattle.data.specs.Sections.{isPhoneTable, isLtsIndex, isLtsModel, table-fit
 use Rattle.data.specs.Places.{Placed, PhoneAt, phone-placed}
 use Rattle.trees.specs.Walk.{walk, walk-leaf}
 use Rattle.trees.specs.declared.Walked.the-variants.{Phone, Damaged}
-use Rattle.lts.specs.Letters.{isTrees, window, letter, Puts, letter-left, letter-right, letter-walked, trees-table, trees-model}
+use Rattle.lts_spec.specs.Letters.{isTrees, window, letter, letter-left, letter-right, letter-walked, trees-table, trees-model}
+use Rattle.lts.specs.Puts.{Puts}
 use Rattle.lts.proofs.Put.{puts-none}
 use borrow.Author.Needs.{needs}
 use Rattle.lts.proofs.put_letter.Statement.{statement}

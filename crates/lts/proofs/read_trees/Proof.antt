@@ -1,7 +1,7 @@
 -- `lts::read_trees` meets its contract: each return is decided by the first form that is broken, and trees have a table. Assumes nothing.
 use mathlib.Core.Path.{sym, _∙_}
 use borrow.Author.Tests.{not-true, not-false}
-use Rattle.lts.specs.Letters.{isTrees, trees-table}
+use Rattle.lts_spec.specs.Letters.{isTrees, trees-table}
 use borrow.Author.Needs.{needs}
 use Rattle.lts.proofs.read_trees.Statement.{statement}
 use Rattle.lts.proofs.read_trees.Tie as tie

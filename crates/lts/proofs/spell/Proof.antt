@@ -1,13 +1,13 @@
 -- `lts::spell` meets its contract: the loop goes leftwards over the padded word, and stops behind its last "#". Assumes nothing.
 use Prim.Native.Nat.{ℕ, _+_, _≤_}
 use native.Mathlib.Omega.{arith}
-use mathlib.Core.Path.{_≡_, refl, sym, ap, _∙_, subst}
+use mathlib.Core.Path.{_≡_, refl, sym, ap}
 use mathlib.Core.Bool.{true, false}
 use mathlib.Core.List.{List}
-use lib.ListN.{length, getD, length-take}
+use lib.ListN.{length, getD}
 use borrow.Author.Tests.{eq-eqb, ne-eqb}
 use Rattle.texts.specs.Text.{is}
-use Rattle.lts.specs.Letters.{padded, letters, upTo, Puts}
+use Rattle.lts_spec.specs.Letters.{padded, letters}
 use Rattle.lts.proofs.Stopping.{Left, left-start, left-end, left-stop, left-turn}
 use Rattle.lts.proofs.Leftwards.{Spelling, padded-length, spelling-start, spelling-end, spelling-stop, spelling-damaged, spelling-turn}
 use borrow.Author.Needs.{needs}

@@ -1,15 +1,15 @@
 -- `lts::spell_out` meets its contract: the cells at the end of the list are copied to the front of the output. Assumes nothing.
-use Prim.Native.Nat.{ℕ, _*_, _≤_, _<_, _-_}
+use Prim.Native.Nat.{ℕ, _*_, _≤_, _-_}
 use native.Mathlib.Omega.{arith}
-use mathlib.Core.Path.{_≡_, refl, sym, ap, _∙_}
-use mathlib.Core.List.{List, _++_}
+use mathlib.Core.Path.{_≡_, ap, _∙_}
+use mathlib.Core.List.{List}
 use lib.ListN.{length, drop, length-take, length-drop}
 use lib.Seq.{paste}
 use borrow.Author.Tests.{lt-ltb, le-ltb}
 use Rattle.records.specs.Records.{part-from, paste-front}
 use Rattle.cells.specs.Cells.{cellsOf}
 use Rattle.answers.specs.Told.{acceptedWith}
-use Rattle.lts.specs.Letters.{letters, stopped}
+use Rattle.lts_spec.specs.Letters.{letters, stopped}
 use Rattle.lts.proofs.Found.{Found, found, damage}
 use borrow.Author.Needs.{needs}
 use Rattle.lts.proofs.spell_out.Statement.{statement}

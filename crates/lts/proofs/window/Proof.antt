@@ -1,6 +1,6 @@
 -- `lts::window` meets its contract: two parts of four bytes, one behind the other. Assumes nothing.
 use Rattle.lts.proofs.Fill.{parts}
-use Rattle.lts.specs.Letters.{window}
+use Rattle.lts_spec.specs.Letters.{window}
 use borrow.Author.Needs.{needs}
 use Rattle.lts.proofs.window.Statement.{statement}
 use Rattle.lts.proofs.window.Tie as tie

@@ -18,11 +18,11 @@ use Rattle.answers.specs.declared.Looked.{Looked}
 use Rattle.answers.specs.declared.Looked.the-variants.{Refused, Nothing, Found}
 use Rattle.answers.specs.Told.{refusalNumber, sourceNumber, refused, accepted, acceptedWith, toldLooked}
 use Rattle.answers.specs.Laws.Numbers.{refused-never, never-accepted}
-use Rattle.lts.specs.Call.{toldPhones, outPhones}
+use Rattle.lts_spec.specs.Call.{toldPhones, outPhones}
 use Rattle.lexicon_spec.specs.Lookup.{Finding, nothing, damaged, found, toldFinding, outFinding}
 use Rattle.pipeline_spec.specs.Pronounced.{onLetters, onFinding}
 use Rattle.pipeline_spec.specs.Cutting.{toldSpoken, cellsSpoken}
-use Rattle.lts.specs.FewPhones.{Few}
+use Rattle.lts_spec.specs.FewPhones.{Few}
 
 -- an answer of predict as a word's: the letter trees are its source
 abbrev pub byLetters : Answer → Answer

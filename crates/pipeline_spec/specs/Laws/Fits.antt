@@ -12,12 +12,12 @@ use Rattle.texts.specs.Lists.{every, some as someOf}
 use Rattle.texts.specs.Text.{isPhone}
 use Rattle.phoneset.specs.Stress.{digits, lastByte, isStressed, stress}
 use Rattle.slots_spec.specs.Slot.{Entry, fits}
-use Rattle.lts.specs.Letters.{letters, stopped, isTrees, trees-table}
+use Rattle.lts_spec.specs.Letters.{letters, stopped, isTrees, trees-table}
 use Rattle.compiled_spec.specs.Lexicon.{isLexicon, lexicon-table}
 use Rattle.lexicon_spec.specs.Lookup.{Finding, nothing, damaged, found, find, wantedTag}
 use Rattle.pipeline_spec.specs.Pronounced.{Sections, Spoken, barred, phones, onFinding, pronounced}
 use Rattle.pipeline_spec.specs.Laws.Sources.{Fit, find-fit}
-use Rattle.lts.specs.FewPhones.{AreFit, letters-fit}
+use Rattle.lts_spec.specs.FewPhones.{AreFit, letters-fit}
 
 -- a stress byte
 unfoldable pub isStress : ℕ → Bool

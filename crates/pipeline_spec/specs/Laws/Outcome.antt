@@ -14,7 +14,7 @@ use Rattle.texts.specs.Text.{isPhone, phone-short}
 use Rattle.texts.specs.Lists.{every}
 use Rattle.cells.specs.Cells.{phonesOf, cellsOf, length-cellsOf}
 use Rattle.slots_spec.specs.Slot.{Entry}
-use Rattle.lts.specs.Letters.{letters, stopped}
+use Rattle.lts_spec.specs.Letters.{letters, stopped}
 use Rattle.lexicon_spec.specs.Lookup.{Finding, nothing, damaged, found, find, wantedTag}
 use Rattle.utterance_spec.specs.Append.{appended}
 use Rattle.answers.specs.declared.Answer.{Answer}

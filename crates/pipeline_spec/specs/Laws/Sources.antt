@@ -26,7 +26,7 @@ use Rattle.compiled_spec.specs.Entries.{entryAt as compiledAt, numbersOf, entry
 use Rattle.compiled_spec.specs.Search.{chosen}
 use Rattle.compiled_spec.specs.declared.Chosen.{Chosen}
 use Rattle.compiled_spec.specs.declared.Chosen.the-variants.{Damaged as entryDamaged, Missing, Entry as At}
-use Rattle.lts.specs.FewPhones.{table-phone}
+use Rattle.lts_spec.specs.FewPhones.{table-phone}
 use Rattle.lexicon_spec.specs.Lookup.{Finding, nothing, damaged, found, onEntry, onRow, onChosen, fromCompiled, find}
 
 -- phones of at most 15 bytes

@@ -7,7 +7,7 @@ use borrow.Author.Tests.{not-true, not-false}
 use Rattle.texts.specs.Choice.{both-true}
 use Rattle.texts.specs.Text.{isWord, word-short}
 use Rattle.compiled_spec.specs.Lexicon.{isLexicon}
-use Rattle.lts.specs.Letters.{isTrees}
+use Rattle.lts_spec.specs.Letters.{isTrees}
 use Rattle.store_spec.specs.Store.{isSound}
 use Rattle.utterance_spec.specs.Sheet.{isSound as isSheet}
 use Rattle.say_word.specs.SayWord.{sayWord, sheetAfter}

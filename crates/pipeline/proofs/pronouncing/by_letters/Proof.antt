@@ -1,6 +1,5 @@
 -- `pipeline::pronouncing::by_letters` meets its contract: each arm is a case of the definition. Assumes nothing.
 use mathlib.Core.Path.{_≡_, sym, ap, _∙_}
-use Rattle.answers.specs.declared.Answer.{Answer}
 use Rattle.answers.specs.declared.Refusal.{Refusal}
 use Rattle.answers.specs.Told.{refusalNumber, refused, toldPredicted}
 use Rattle.answers.specs.Laws.Numbers.{not-zero}

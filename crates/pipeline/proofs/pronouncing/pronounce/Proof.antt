@@ -11,11 +11,11 @@ use denote.Enum.Declared.{tagOf}
 use Rattle.answers.specs.declared.Looked.{Looked}
 use Rattle.answers.specs.declared.Looked.the-variants.{Refused, Nothing, Found}
 use Rattle.answers.specs.Told.{toldLooked}
-use Rattle.lts.specs.Letters.{letters, stopped}
+use Rattle.lts_spec.specs.Letters.{letters, stopped}
 use Rattle.store_spec.specs.Store.{entries}
 use Rattle.lexicon_spec.specs.Lookup.{Finding, find, wantedTag, toldFinding, outFinding}
 use Rattle.pipeline_spec.specs.Pronounced.{pronounced}
-use Rattle.lts.specs.FewPhones.{letters-few}
+use Rattle.lts_spec.specs.FewPhones.{letters-few}
 use Rattle.pipeline_spec.specs.Laws.ChosenSource.{lookup-refused, lookup-followed}
 use Rattle.answers.proofs.Looked as looked
 use Rattle.pipeline.proofs.pronouncing.pronounce.Tie as tie

@@ -12,7 +12,7 @@ use types.Run.{OneOf}
 use denote.Enum.Declared.{tagOf}
 use Rattle.answers.specs.declared.Looked.{Looked}
 use Rattle.answers.specs.declared.Looked.the-variants.{Refused, Nothing, Found}
-use Rattle.lts.specs.Call.{toldPhones, outPhones}
+use Rattle.lts_spec.specs.Call.{toldPhones, outPhones}
 use Rattle.pipeline_spec.specs.Laws.ChosenSource.{byLetters, toldBehind, roomBehind}
 use Rattle.pipeline.proofs.pronouncing.spoken.Tie as tie
 

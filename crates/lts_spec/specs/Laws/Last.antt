@@ -2,15 +2,15 @@
 -- Assumes nothing.
 use Prim.Native.Nat.{ℕ, zero, suc, _-_, _≤_, _<_}
 use native.Mathlib.Omega.{arith}
-use mathlib.Core.Path.{_≡_, refl, sym, ap, _∙_, subst}
+use mathlib.Core.Path.{_≡_, refl, ap, _∙_, subst}
 use mathlib.Core.Bool.{Bool, true, false}
 use mathlib.Core.List.{List, [], _∷_, reverse, reverse-append}
 use lib.ListN.{length, getD, take}
 use lib.Seq.{take-suc, length-take-le, take-length}
 use lib.Dec.{ltb}
 use borrow.Author.Tests.{ltb-true, ltb-false}
 use Rattle.texts.specs.Choice.{cases}
 use Rattle.texts.specs.Lists.{place, behindLast}
 
 module _ {A : Type 0} (f : A → Bool) (l : List A) (d : A) where
   module _ (n : ℕ) (inside : n < length l) where

@@ -17,7 +17,7 @@ use Rattle.data.specs.Sections.{isPhoneTable, tablePhones, length-table, table-
 use Rattle.trees.specs.Walk.{walk}
 use Rattle.trees.specs.declared.Walked.{Walked}
 use Rattle.trees.specs.declared.Walked.the-variants.{Phone, Damaged}
-use Rattle.lts.specs.Letters.{padded, window, spoken, isTrees, leaf, letter, joined, upTo, letters, trees-table}
+use Rattle.lts_spec.specs.Letters.{padded, window, spoken, isTrees, leaf, letter, joined, upTo, letters, trees-table}
 
 -- what a word comes to has at most n phones
 abbrev pub Few : ℕ → Option (List (List ℕ)) → Type 0

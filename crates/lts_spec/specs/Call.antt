@@ -11,7 +11,7 @@ use Rattle.texts.specs.Text.{isWord}
 use Rattle.answers.specs.declared.Answer.{Answer}
 use Rattle.answers.specs.Told.{refused, acceptedWith, written}
 use Rattle.cells.specs.Cells.{cellsOf}
-use Rattle.lts.specs.Letters.{isTrees, letters, stopped}
+use Rattle.lts_spec.specs.Letters.{isTrees, letters, stopped}
 
 -- phones to be answered, and where the letters stopped; or damage
 abbrev pub toldPhones : Option (List (List ℕ)) → ℕ → List ℕ → Answer

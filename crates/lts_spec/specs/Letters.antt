@@ -13,15 +13,10 @@ use Rattle.texts.specs.Choice.{if_then_else_, both-true}
 use Rattle.texts.specs.Lists.{place, behindLast}
 use Rattle.texts.specs.Text.{bytes, folded, same, is}
 use Rattle.records.specs.Fields.{u16At, u32At}
-use Rattle.cells.specs.Cells.{cellsOf}
 use Rattle.data.specs.Sections.{isPhoneTable, tablePhones, isLtsIndex, isLtsModel}
 use Rattle.trees.specs.Walk.{walk}
 use Rattle.trees.specs.declared.Walked.{Walked}
 use Rattle.trees.specs.declared.Walked.the-variants.{Phone, Damaged as damaged}
-use Rattle.lts.specs.declared.Letters.{Letters}
-use Rattle.lts.specs.declared.Letters.the-variants.{From, Damaged}
-use Rattle.lts.specs.declared.Spelled.{Spelled}
-use Rattle.lts.specs.declared.Spelled.the-variants.{From as spelledFrom, Damaged as unspelled}
 
 -- the folded word between "000#" and "#000"
 unfoldable pub padded : List ℕ → List ℕ
@@ -79,20 +74,6 @@ module _ (phones index model : List ℕ) where
 -- 02, S-5: where a word's letters stop, the place just after its last "#", counted from 0 in the word as given; 0 if there is none
 unfoldable pub stopped : List ℕ → ℕ
 stopped word = behindLast (is 35) word
-
--- phones put before cell `at` of a list: from their first cell on stand their cells and then what stood from `at` on
-abbrev pub Stand : List (List ℕ) → List ℕ → ℕ → List ℕ → Type 0
-Stand ps list at list′ = (length ps ≤ at) × (drop (16 * (at - length ps)) list′ ≡ cellsOf ps ++ drop (16 * at) list)
-
--- and their first cell is told
-abbrev pub Puts : Option (List (List ℕ)) → List ℕ → ℕ → Letters → List ℕ → Type 0
-Puts none list at r list′ = r ≡ Damaged
-Puts (some ps) list at r list′ = (r ≡ From (at - length ps)) × Stand ps list at list′
-
--- the same of a word's phones at the end of a list of 94 cells; told with the place where its letters stop
-abbrev pub Spells : Option (List (List ℕ)) → ℕ → List ℕ → Spelled → List ℕ → Type 0
-Spells none place list r list′ = r ≡ unspelled
-Spells (some ps) place list r list′ = (r ≡ spelledFrom (94 - length ps) place) × Stand ps list 94 list′
 
 -- the phones of a leaf, by the tests
 pub spoken-none : (x : List ℕ) → same x (bytes "epsilon") ≡ true → spoken x ≡ []

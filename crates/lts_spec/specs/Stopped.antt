@@ -2,7 +2,7 @@
 -- Assumes nothing.
 use Prim.Native.Nat.{ℕ, zero, suc, _+_, _-_, _≤_, _<_}
 use native.Mathlib.Omega.{arith}
-use mathlib.Core.Path.{_≡_, refl, sym, ap, _∙_}
+use mathlib.Core.Path.{_≡_, refl, ap, _∙_}
 use mathlib.Core.Bool.{false, _&&_}
 use mathlib.Core.List.{List, [], _++_, map}
 use mathlib.Core.Option.{Option, some}
@@ -13,12 +13,12 @@ use borrow.Author.Tests.{eqb-true, ne-eqb, leb-true, le-leb, lt-leb}
 use Rattle.texts.specs.Choice.{if_then_else_, cases, both-true}
 use Rattle.texts.specs.Lists.{behindLast, getD-map}
 use Rattle.texts.specs.Text.{bytes, folded, is}
-use Rattle.texts.specs.Laws.Last.{Behind, behind-none, behind-turn, behind-stop, behind-take, behind-last}
-use Rattle.lts.specs.Letters.{padded, letter, joined, upTo, letters, stopped}
+use Rattle.lts_spec.specs.Laws.Last.{behind-turn, behind-stop, behind-take, behind-last}
+use Rattle.lts_spec.specs.Letters.{padded, letter, joined, upTo, letters, stopped}
 
 pub stopped-free : (word : List ℕ) (k : ℕ) → stopped word ≤ k → k < length word → is 35 (getD word k 0) ≡ false
 unfolding stopped
-stopped-free word k a b = behind-last (is 35) word 0 .free k a b
+stopped-free word k a b = behind-last (is 35) word 0 .free k (omega (arith, a)) b
 
 pub stopped-behind : (word : List ℕ) → 0 < stopped word → getD word (stopped word - 1) 0 ≡ 35
 unfolding stopped is
