@@ -100,6 +100,84 @@ impl Side for AddEntry {
     }
 }
 
+/// What is done with a text of entries.
+#[derive(Clone, Copy, PartialEq)]
+pub enum Taking {
+    Add,
+    Preview,
+    /// Of the first text's spare, which is filled before.
+    Accept,
+    PreviewAndAccept,
+}
+
+/// Texts that replace entries, or are the only ones of an empty store.
+pub struct Texts {
+    pub tables: &'static Tables,
+    pub taking: Taking,
+    pub store: Vec<u8>,
+    pub spare: Vec<u8>,
+    pub empty: bool,
+    pub texts: Vec<String>,
+}
+
+impl Texts {
+    fn add(&mut self, i: usize) {
+        let (table, text) = (&self.tables.lex[0], self.texts[i].as_bytes());
+        let answer = ours::add_entries(table, &mut self.store, &mut self.spare, text);
+        debug_assert!(answer.refusal == 0);
+        black_box(answer);
+    }
+
+    fn preview(&mut self, i: usize) {
+        let (table, text) = (&self.tables.lex[0], self.texts[i].as_bytes());
+        let answer = ours::preview_entries(table, &self.store, &mut self.spare, text);
+        debug_assert!(answer.refusal == 0);
+        black_box(answer);
+    }
+
+    fn accept(&mut self) {
+        let answer = ours::accept_entries(&mut self.store, &self.spare);
+        debug_assert!(answer.refusal == 0);
+        black_box(answer);
+    }
+}
+
+impl Side for Texts {
+    fn calls(&self) -> usize {
+        self.texts.len()
+    }
+
+    fn prepare(&mut self) {
+        if self.taking == Taking::Accept {
+            self.preview(0);
+        }
+    }
+
+    fn call(&mut self, i: usize) {
+        match self.taking {
+            Taking::Add => self.add(i),
+            Taking::Preview => {
+                self.preview(i);
+                // the store as if the text had been accepted
+                std::mem::swap(&mut self.store, &mut self.spare);
+            }
+            Taking::Accept => {
+                self.accept();
+                // the spare's count again
+                self.store[8..16].copy_from_slice(&self.spare[8..16]);
+            }
+            Taking::PreviewAndAccept => {
+                self.preview(i);
+                self.accept();
+            }
+        }
+        if self.empty {
+            // first, last, used and the count
+            self.store[..16].fill(0);
+        }
+    }
+}
+
 /// Says a word on a sheet, then puts the sheet back.
 pub struct SayWord {
     tables: &'static Tables,

@@ -160,6 +160,44 @@ impl Side for AddFirst {
     }
 }
 
+/// Texts that replace entries.
+pub struct ReplaceByText {
+    pub language: Language,
+    pub texts: Vec<String>,
+}
+
+impl Side for ReplaceByText {
+    fn calls(&self) -> usize {
+        self.texts.len()
+    }
+
+    fn call(&mut self, i: usize) {
+        let _ = black_box(self.language.lexicon.add_entries(&self.texts[i]));
+    }
+}
+
+/// Texts that are the only ones of their lexicon; a pass has a lexicon for each.
+pub struct AddFirstText {
+    pub language: Language,
+    pub texts: Vec<String>,
+    pub lexicons: Vec<lexicon::Lexicon>,
+}
+
+impl Side for AddFirstText {
+    fn calls(&self) -> usize {
+        self.texts.len()
+    }
+
+    fn prepare(&mut self) {
+        self.lexicons.clear();
+        self.lexicons.resize(self.texts.len(), self.language.lexicon.clone());
+    }
+
+    fn call(&mut self, i: usize) {
+        let _ = black_box(self.lexicons[i].add_entries(&self.texts[i]));
+    }
+}
+
 /// Utterances at a time.
 const UTTERANCES: usize = 12;
 

@@ -63,6 +63,9 @@ library! {
     );
     new_store = pronouncer_new_store(store: &mut [u8]);
     add_entry = pronouncer_add_entry(table: &[u8], store: &mut [u8], word: &[u8], tag: &[u8], phones: &[u8]);
+    add_entries = pronouncer_add_entries(table: &[u8], store: &mut [u8], spare: &mut [u8], text: &[u8]);
+    preview_entries = pronouncer_preview_entries(table: &[u8], store: &[u8], spare: &mut [u8], text: &[u8]);
+    accept_entries = pronouncer_accept_entries(store: &mut [u8], spare: &[u8]);
     new_sheet = pronouncer_new_sheet(sheet: &mut [u8]);
     say_word_in = pronouncer_say_word(
         lex_phones: &[u8], lex_index: &[u8], lex_data: &[u8], lts_phones: &[u8], lts_index: &[u8], lts_model: &[u8],

@@ -1,6 +1,6 @@
 //! The rows: what is asked, and both sides of it.
 
-use crate::library;
+use crate::library::{self, Taking};
 use crate::measure::Side;
 #[cfg(feature = "original")]
 use crate::original_side as rust;
@@ -32,6 +32,17 @@ impl Plan {
 const FILLS: [(Fill, &str); 3] =
     [(Fill::Empty, "empty"), (Fill::Half, "half-full"), (Fill::Full, "full")];
 
+/// Texts of entries: how many lines, and how full the store is. To an empty one they add, else they replace.
+const TEXTS: [(usize, (Fill, &str)); 4] =
+    [(100, FILLS[0]), (3, FILLS[1]), (3, FILLS[2]), (100, FILLS[2])];
+
+const TAKINGS: [(Taking, &str); 4] = [
+    (Taking::Add, "add_entries"),
+    (Taking::Preview, "preview_entries"),
+    (Taking::Accept, "accept_entries"),
+    (Taking::PreviewAndAccept, "preview and accept"),
+];
+
 /// All rows.
 pub fn all() -> Vec<Plan> {
     let mut plans = vec![];
@@ -54,6 +65,12 @@ pub fn all() -> Vec<Plan> {
         let name = format!("add_entry, {full} store");
         plan(name, "entries", Box::new(move |t| add_entry(t, fill)));
     }
+    for (taking, call) in TAKINGS {
+        for (lines, (fill, full)) in TEXTS {
+            let name = format!("{call}, {lines} lines, {full} store");
+            plan(name, "texts", Box::new(move |t| take_text(t, taking, lines, fill)));
+        }
+    }
     for (store, store_full) in [FILLS[0], FILLS[2]] {
         for (sheet, full) in FILLS {
             let name = format!("say_word, {full} sheet, {store_full} store");
@@ -70,7 +87,7 @@ pub fn all() -> Vec<Plan> {
         plan(name, "calls", Box::new(move |_| read_settings(records)));
     }
     plan("write_setting, three records".into(), "calls", Box::new(|_| write_setting(3)));
-    for (fill, full) in [FILLS[0], FILLS[2]] {
+    for (fill, full) in FILLS {
         let name = format!("soundness alone, {full} store");
         plan(name, "calls", Box::new(move |t| decide(t, fill, None)));
     }
@@ -170,6 +187,33 @@ fn add_entry(tables: &'static Tables, fill: Fill) -> Sides {
             _ => sides.beside(rust::Replace { language, entries }),
         }
     };
+    sides
+}
+
+/// The original has the one call that takes a text at once.
+fn take_text(tables: &'static Tables, taking: Taking, lines: usize, fill: Fill) -> Sides {
+    let entries = stage::entries(tables, fill);
+    let texts = match fill {
+        Fill::Empty => stage::texts(&stage::entries(tables, Fill::Full), lines),
+        _ => stage::texts(&entries, lines),
+    };
+    let store = stage::store(tables, &entries);
+    let sides = Sides::ours(library::Texts {
+        tables,
+        taking,
+        spare: store.clone(),
+        store,
+        empty: fill == Fill::Empty,
+        texts: texts.clone(),
+    });
+    #[cfg(feature = "original")]
+    if taking == Taking::Add {
+        let language = rust::with_entries(&rust::language(tables), &entries);
+        return match fill {
+            Fill::Empty => sides.beside(rust::AddFirstText { language, texts, lexicons: vec![] }),
+            _ => sides.beside(rust::ReplaceByText { language, texts }),
+        };
+    }
     sides
 }
 

@@ -1,5 +1,6 @@
 //! Stores and sheets that are empty, half-full and full, written by the library itself; and settings.
 
+use crate::measure::AGAIN;
 use crate::ours;
 use crate::tables::{Tables, Word};
 
@@ -122,6 +123,14 @@ pub fn store(tables: &Tables, entries: &[Entry]) -> Vec<u8> {
         assert!(answer.refusal == 0, "{:?} is not added", entry.word);
     }
     store
+}
+
+/// Texts of so many lines, which go round the entries.
+pub fn texts(entries: &[Entry], lines: usize) -> Vec<String> {
+    let line =
+        |entry: &Entry| format!("{} {} : {}\n", entry.word, entry.tag, entry.phones.join(" "));
+    let mut lines_of_all = entries.iter().cycle().map(line);
+    (0..AGAIN).map(|_| lines_of_all.by_ref().take(lines).collect()).collect()
 }
 
 /// How many of the words, one behind the other and over again, fill a sheet so far. A full one has room for any of the

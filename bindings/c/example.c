@@ -1,5 +1,5 @@
-/* Adds a name, says it and a word of which only a letter is read, and prints the phones; then sets a
- * rack's pitch, and prints its settings. At the top of the repository:
+/* Previews a name and accepts it, says it and a word of which only a letter is read, and prints the
+ * phones; then sets a rack's pitch, and prints its settings. At the top of the repository:
  *   cc -std=c99 -Ibindings/c bindings/c/example.c target/staticlib/libpronouncer.a -o target/example
  */
 #include "pronouncer.h"
@@ -59,10 +59,15 @@ int main(void)
         refused("new_sheet", pronouncer_new_sheet(sheet, sizeof sheet)))
         return 1;
 
-    answer = pronouncer_add_entries(
+    answer = pronouncer_preview_entries(
         BYTES(lex_phones), store, sizeof store, spare, sizeof spare,
         BYTES("# names of tonight\ntormentor n : t ao r m eh n t er\n"));
-    if (refused("add_entries", answer) || say(store, sheet, "Tormentor") || say(store, sheet, "tempo#k"))
+    if (refused("preview_entries", answer))
+        return 1;
+    printf("lines %u, new %u, replaced %u\n",
+           (unsigned)answer.value, (unsigned)answer.second, (unsigned)answer.third);
+    answer = pronouncer_accept_entries(store, sizeof store, spare, sizeof spare);
+    if (refused("accept_entries", answer) || say(store, sheet, "Tormentor") || say(store, sheet, "tempo#k"))
         return 1;
 
     answer = pronouncer_phone_string(sheet, sizeof sheet, out, sizeof out);

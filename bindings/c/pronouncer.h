@@ -11,8 +11,8 @@
  * several threads are safe if none writes what another uses.
  *
  * Refusals. A refused call leaves every lent byte as it was, but for the spare of
- * pronouncer_add_entries. Where several numbers apply, the first in rank order is told
- * (docs/FORMATS.md has the order).
+ * pronouncer_add_entries and pronouncer_preview_entries where a line is at fault. Where several
+ * numbers apply, the first in rank order is told (docs/FORMATS.md has the order).
  *
  * Words, tags and texts are bytes, not strings that end at 0. A phone list is cells of 16 bytes: a
  * length from 0 to 15, then the text. Handed in, it has as many phones as whole cells, and bytes
@@ -28,7 +28,7 @@
 extern "C" {
 #endif
 
-/* Sizes. A store has 512 to 65,536 bytes, a multiple of 512; its first slot keeps count, so 65,536
+/* Sizes. A store has 512 to 65,536 bytes, a multiple of 512; its first slot has no entry, so 65,536
  * bytes hold 127 entries. A sheet has 64 to 65,536 bytes; its first item keeps count, and each
  * word, syllable and phone takes another, so 65,536 bytes hold 1,023 of them. Settings have 32 to
  * 65,536 bytes; their first record has the version, so 65,536 bytes hold 2,047 of them. */
@@ -49,9 +49,10 @@ enum pronouncer_refusal {
     PRONOUNCER_ACCEPTED = 0,
     /* A section breaks its form. Hand over each section singly, whole and in its place. */
     PRONOUNCER_SECTION = 1,
-    /* A store or sheet has a wrong length or is not sound, settings have a wrong length, or the spare
-     * is not as long as the store. Lend the lengths above, begin with pronouncer_new_store or
-     * pronouncer_new_sheet, and let only calls write the bytes. */
+    /* A store or sheet has a wrong length or is not sound, settings have a wrong length, the spare is
+     * not as long as the store, or a spare to be accepted is not a sound store. Lend the lengths
+     * above, begin with pronouncer_new_store or pronouncer_new_sheet, fill a spare with
+     * pronouncer_preview_entries, and let only calls write the bytes. */
     PRONOUNCER_UNSOUND = 2,
     /* A word or tag is over 47 bytes, or a text has a byte of 128 or more. Write it shorter, or in
      * ASCII. */
@@ -73,6 +74,10 @@ enum pronouncer_refusal {
     /* The sheet has too few unused items, or an output is too short. Begin a new sheet, or lend
      * more bytes. */
     PRONOUNCER_SHORT = 9,
+    /* The spare to be accepted was filled from the store as it was before something else was
+     * accepted, or from a text that stopped at a line: preview the text again. Or the store's count
+     * is the largest: begin a new store and add its entries again. */
+    PRONOUNCER_COUNT = 12,
     /* The version of the settings or the reader's is neither 1 nor 2. Ask with 1 or 2; settings of
      * another version are read by the library that has it, or written anew. */
     PRONOUNCER_VERSION = 15,
@@ -106,8 +111,9 @@ struct pronouncer_answer {
     uint32_t refusal; /* an enum pronouncer_refusal; 0 if the call was accepted */
     uint32_t kind;    /* a source, or 1 for yes and 0 for no, where the call says so; else 0 */
     uint64_t value;   /* a count, where the call says so; of a refusal the faulty line; else 0 */
-    uint64_t second;  /* the place where letters stopped, where the call says so; else 0 */
-    uint64_t third;   /* 0 */
+    uint64_t second;  /* the place where letters stopped, or the slots newly used, where the call
+                       * says so; else 0 */
+    uint64_t third;   /* the lines that replaced an entry, where the call says so; else 0 */
 };
 
 /* What pronouncer_read_settings gives back; refused, every other field is 0. */
@@ -217,7 +223,8 @@ struct pronouncer_answer pronouncer_is_sayable(
  * store: 512 to 65,536 bytes, a multiple of 512, that may hold anything.
  * Refusals:
  *   2  the length is another
- * Writes the first 512 bytes, all 0, and no other byte.
+ * Writes the first 512 bytes, all 0, and no other byte. So the store's count is 0 (bytes 8 to 15);
+ * each accepted pronouncer_add_entry, pronouncer_add_entries and pronouncer_accept_entries adds one.
  */
 struct pronouncer_answer pronouncer_new_store(uint8_t *store, size_t store_len);
 
@@ -228,14 +235,15 @@ struct pronouncer_answer pronouncer_new_store(uint8_t *store, size_t store_len);
  * table: lex.phones. store: a sound store. word, tag. phones: a list of at most 24, each of them in
  * lex.phones or one of the 50.
  * Refusals:
- *   1  lex.phones breaks its form
- *   2  the store has a wrong length or is not sound
- *   3  word or tag is over 47 bytes, or it or a phone has a byte of 128 or more
- *   5  a phone is neither in lex.phones nor one of the 50, as is one over 15 bytes
- *   7  there are over 24 phones
- *   8  there is neither an unused slot nor an entry of that word and tag
- * Writes the entry's slot, whole, and the links and counts of slots that are used. Slots past the
- * used ones keep their bytes. The store is sound at exit.
+ *    1  lex.phones breaks its form
+ *    2  the store has a wrong length or is not sound
+ *   12  the store's count is the largest
+ *    3  word or tag is over 47 bytes, or it or a phone has a byte of 128 or more
+ *    5  a phone is neither in lex.phones nor one of the 50, as is one over 15 bytes
+ *    7  there are over 24 phones
+ *    8  there is neither an unused slot nor an entry of that word and tag
+ * Writes the entry's slot, whole, the links and the number of slots that are used, and the store's
+ * count, which is one higher. Slots past the used ones keep their bytes. The store is sound at exit.
  */
 struct pronouncer_answer pronouncer_add_entry(
     const uint8_t *table, size_t table_len,
@@ -244,7 +252,8 @@ struct pronouncer_answer pronouncer_add_entry(
     const uint8_t *tag, size_t tag_len,
     const uint8_t *phones, size_t phones_len);
 
-/* Adds a text of entries, all of them or none.
+/* Adds a text of entries, all of them or none: pronouncer_preview_entries and
+ * pronouncer_accept_entries together.
  *
  * Lines end at byte 10 and count from 1. What stands behind a "#" is a remark; a line that is blank
  * without it is skipped. The others are entry lines:
@@ -256,24 +265,59 @@ struct pronouncer_answer pronouncer_add_entry(
  * anything. text.
  * Answer: value is the count of entry lines taken.
  * Refusals of the text as a whole, with value 0:
- *   1  lex.phones breaks its form
- *   2  the store has a wrong length or is not sound, or the spare's length is not the store's
- *   3  the text has a byte of 128 or more, in a remark too
+ *    1  lex.phones breaks its form
+ *    2  the store has a wrong length or is not sound, or the spare's length is not the store's
+ *   12  the store's count is the largest
+ *    3  the text has a byte of 128 or more, in a remark too
  * Refusals of the first faulty line, with its number as value:
- *   3  word or tag is over 47 bytes
- *   4  there is no colon, or no word before it
- *   5  a phone is neither in lex.phones nor one of the 50
- *   7  there are over 24 phones
- *   8  the store, with the lines before, has neither an unused slot nor an entry of that word and tag
- * Accepted, it writes store and spare, and both are the store with all lines added. Refused as a
- * whole, it writes nothing. Refused by a line, it writes the spare alone, which is the store with
- * the lines before added.
+ *    3  word or tag is over 47 bytes
+ *    4  there is no colon, or no word before it
+ *    5  a phone is neither in lex.phones nor one of the 50
+ *    7  there are over 24 phones
+ *    8  the store, with the lines before, has neither an unused slot nor an entry of that word and tag
+ * Accepted, it writes store and spare, and both are the store with all lines added; the store's count
+ * is one higher, the spare's is the one seen. Refused as a whole, it writes nothing. Refused by a
+ * line, it writes the spare alone, which is the store with the lines before added and the largest
+ * count.
  */
 struct pronouncer_answer pronouncer_add_entries(
     const uint8_t *table, size_t table_len,
     uint8_t *store, size_t store_len,
     uint8_t *spare, size_t spare_len,
     const uint8_t *text, size_t text_len);
+
+/* Shows what a text of entries would change, before pronouncer_accept_entries takes it. The lines are
+ * those of pronouncer_add_entries.
+ *
+ * table: lex.phones. store: a sound store, which is only read. spare: as many bytes as the store has,
+ * that may hold anything. text.
+ * Answer: value is the count of entry lines taken, second the count of slots newly used, third the
+ * count of lines that replaced an entry, that of an earlier line included; second and third together
+ * are value.
+ * Refusals: those of pronouncer_add_entries, but never 12.
+ * Accepted, it writes the spare, which is the store with all lines added and the count seen. Refused
+ * as a whole, it writes nothing. Refused by a line, it writes the spare, which is the store with the
+ * lines before added and the largest count, so that it is never accepted.
+ */
+struct pronouncer_answer pronouncer_preview_entries(
+    const uint8_t *table, size_t table_len,
+    const uint8_t *store, size_t store_len,
+    uint8_t *spare, size_t spare_len,
+    const uint8_t *text, size_t text_len);
+
+/* Accepts what pronouncer_preview_entries showed, if nothing was accepted since. The counts alone tell
+ * whether the spare is this store's.
+ *
+ * store: a sound store. spare: as pronouncer_preview_entries filled it, which is only read.
+ * Refusals:
+ *    2  the store has a wrong length or is not sound, the spare's length is not the store's, or the
+ *       spare is not a sound store
+ *   12  the counts of store and spare differ, or the store's is the largest
+ * Writes the store, which is the spare with the count one higher.
+ */
+struct pronouncer_answer pronouncer_accept_entries(
+    uint8_t *store, size_t store_len,
+    const uint8_t *spare, size_t spare_len);
 
 /* Begins a sheet without words.
  *
@@ -374,7 +418,7 @@ struct pronouncer_answer pronouncer_write_setting(
     uint32_t kind,
     uint32_t value);
 
-/* Beyond the thirteen calls: whether a phone is a vowel. An unknown phone is a consonant, and so is
+/* Beyond the fifteen calls: whether a phone is a vowel. An unknown phone is a consonant, and so is
  * one that has its stress.
  *
  * phone: its text, without a length in front.
@@ -383,7 +427,7 @@ struct pronouncer_answer pronouncer_write_setting(
  */
 struct pronouncer_answer pronouncer_is_vowel(const uint8_t *phone, size_t phone_len);
 
-/* Beyond the thirteen calls: the stress of a phone, its last byte if that is "0" or "1".
+/* Beyond the fifteen calls: the stress of a phone, its last byte if that is "0" or "1".
  *
  * phone: its text, without a length in front.
  * Answer: kind is the stress, 48 or 49, or 0 where there is none; value is the length of the bare

@@ -82,3 +82,15 @@ fn option(
         (false, Some(_)) => Err(WrongUse(format!("{name} takes no value"))),
     }
 }
+
+/// Keeps what an argument says that may stand once.
+///
+/// # Errors
+///
+/// Something is kept already.
+pub fn once<T>(name: &str, place: &mut Option<T>, told: T) -> Result<(), WrongUse> {
+    match place.replace(told) {
+        None => Ok(()),
+        Some(_) => Err(WrongUse(format!("{name} stands twice"))),
+    }
+}

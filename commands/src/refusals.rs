@@ -30,10 +30,14 @@ pub fn words(refusal: Refusal) -> String {
             "Take some away, or split the word in two.",
         ),
         Refusal::Full => (
-            "the store is full: it holds 127 entries",
+            "the store is full: the largest holds 127 entries",
             "Begin a new store with the entries that this show needs.",
         ),
         Refusal::Short => ("the sheet has no room for the word", "Begin a new sheet."),
+        Refusal::Count => (
+            "the store was changed since the preview, or was changed as often as it can be",
+            "Preview again; where that does not help, begin a new store and add the entries to it.",
+        ),
         Refusal::Version => (
             "the version of the settings, or of their reader, is neither 1 nor 2",
             "Name one of these, or write new settings (rack_settings --new).",

@@ -106,9 +106,9 @@ fn no_text() -> OsString {
 fn help_and_version() {
     let help = say(&["--help"]);
     assert_eq!((help.status, help.err.as_str()), (Some(0), ""));
-    assert!(help
-        .out
-        .starts_with("say [--tables FOLDER] [--entries FILE] .. [--plain] [--] [WORD ..]\n"));
+    assert!(help.out.starts_with(
+        "say [--tables FOLDER] [--store STORE_FILE] [--entries FILE] .. [--plain] [--] [WORD ..]\n"
+    ));
     assert_eq!(say(&["house", "--help"]), help);
     assert_eq!(say(&["--version"]), ended(0, "say 0.1.0\n", ""));
 }
@@ -205,7 +205,7 @@ fn refused_entries_name_the_place() {
         ("phones", format!("iris n : {phones}\n"),
             "line 1 is refused: 7, too many phones: an added entry has at most 24, a word 96. Take some away, or split the word in two."),
         ("full", (0..128).map(|n| format!("w{n} : ay1\n")).collect(),
-            "line 128 is refused: 8, the store is full: it holds 127 entries. Begin a new store with the entries that this show needs."),
+            "line 128 is refused: 8, the store is full: the largest holds 127 entries. Begin a new store with the entries that this show needs."),
     ] {
         assert_eq!(refused(test, text), format!(": {told}\n"));
     }

@@ -97,8 +97,14 @@ fn phone_table(table: &[u8]) -> String {
 
 /// A store: slot by slot, with its phones as cells.
 pub fn store(store: &[u8]) -> String {
+    or_dot(parted(store, 0).1)
+}
+
+/// A store's first bytes, as many as are told, and the rest of it.
+pub fn parted(store: &[u8], first: usize) -> (String, String) {
     let used = store.get(4..6).map_or(0, number);
     let (head, slots) = store.split_at(store.len().min(SLOT));
+    let (first, head) = head.split_at(first);
     let slots = records(slots, SLOT, used, |slot| {
         // the phones stand from 64 on, their count at 51
         let count = slot.get(51).map_or(0, |count| usize::from(*count));
@@ -107,7 +113,7 @@ pub fn store(store: &[u8]) -> String {
             false => pieces(slot),
         }
     });
-    or_dot(pieces(head) + &slots)
+    (pieces(first), pieces(head) + &slots)
 }
 
 /// A sheet: item by item, with texts as such.

@@ -24,7 +24,12 @@ impl Answer {
         Answer { second: second as u64, ..self }
     }
 
-    /// A refusal; its line is 0 except in add_entries.
+    /// The same with a third number.
+    pub fn and_third(self, third: usize) -> Answer {
+        Answer { third: third as u64, ..self }
+    }
+
+    /// A refusal; its line is 0 except where a text is taken.
     pub fn refused(refusal: u32, line: usize) -> Answer {
         Answer { refusal, ..Answer::accepted(0, line) }
     }
@@ -75,12 +80,26 @@ library! {
     new_store = pronouncer_new_store(store);
     add_entry = pronouncer_add_entry(lex_phones, store, word, tag, phones);
     add_entries = pronouncer_add_entries(phones, store, spare, text);
+    preview_entries = pronouncer_preview_entries(phones, store, spare, text);
+    accept_entries = pronouncer_accept_entries(store, spare);
     new_sheet = pronouncer_new_sheet(sheet);
     say_word = pronouncer_say_word(
         lex_phones, lex_index, lex_data, lts_phones, lts_index, lts_model, store, sheet, word, tag
     );
     phone_string = pronouncer_phone_string(sheet, out);
     write_setting = pronouncer_write_setting(settings [version], name [kind, value]);
+}
+
+/// Both steps of add_entries; the answer is the first one's, unless the second refuses.
+pub fn two_steps(lent: &mut [Lent]) -> Answer {
+    let previewed = preview_entries(lent);
+    if previewed.refusal > 0 {
+        return previewed;
+    }
+    match accept_entries(&mut lent[1..3]) {
+        accepted if accepted.refusal > 0 => accepted,
+        _ => previewed,
+    }
 }
 
 /// What read_settings gives back.

@@ -37,7 +37,7 @@ macro_rules! checks {
 }
 
 /// The rank order of the refusals.
-const RANKS: [u32; 12] = [1, 2, 15, 16, 17, 3, 4, 5, 6, 7, 8, 9];
+const RANKS: [u32; 17] = [1, 2, 15, 16, 17, 10, 11, 12, 13, 14, 3, 4, 5, 6, 7, 8, 9];
 
 /// The rows that an input met.
 #[derive(Default)]

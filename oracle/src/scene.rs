@@ -6,7 +6,7 @@ use crate::stores::Placed;
 use original::lexicon::probe;
 use std::collections::BTreeMap;
 
-/// What lookup and both adds are given.
+/// What lookup and the adds are given.
 pub struct Scene {
     // reads what is behind it
     original: Option<Held<lexicon::Lexicon>>,
@@ -142,9 +142,10 @@ impl Scene {
         known.map_or(self.entries().len() + 1, |placed| placed.slot)
     }
 
-    /// The store grown by adds, which the original makes; those without room are left out.
+    /// The store grown by adds, which the original makes, and its count with it; those without room are left out.
     pub fn grown(&self, adds: &[Add]) -> Vec<u8> {
         let mut keys = self.keys();
+        let mut count = stores::count(&self.store);
         let (_, list) = self.changed(|lexicon| {
             for Add { wanted, phones } in adds {
                 let key = key(&wanted.word, &wanted.tag);
@@ -156,9 +157,11 @@ impl Scene {
                 let (word, tag) = (ascii(&wanted.word), ascii(&wanted.tag));
                 let phones: Vec<&str> = phones.texts().into_iter().map(ascii).collect();
                 lexicon.add_entry(word, Some(tag), &phones).expect("the phones are known");
+                count += 1;
             }
         });
-        self.store_of(&keys, &list).expect("the original adds what 01 says")
+        let store = self.store_of(&keys, &list).expect("the original adds what 01 says");
+        stores::with_count(&store, count)
     }
 }
 

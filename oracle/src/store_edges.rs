@@ -51,6 +51,9 @@ pub fn limits() -> Vec<Vec<u8>> {
         let adds = words.map(|word| add(&word, "", &"k ".repeat(word.len() % 4)));
         all.push(grown(slots, 0x5a, &adds.collect::<Vec<Add>>()));
     }
+    // counts at 02's limits
+    let counts = [0, u64::MAX - 1, u64::MAX, 255, 1 << 63];
+    all.extend(counts.map(|count| stores::with_count(&good, count)));
     // longest texts
     let longest = add(&"w".repeat(47), &"t".repeat(47), &"brth ".repeat(24));
     all.push(grown(2, 0, &[longest]));
@@ -81,7 +84,9 @@ fn unsound() -> Vec<Vec<u8>> {
     // a chain without an end, one that misses a slot, one that leaves the used slots
     let links = [(SLOT, 2), (4, 3), (4, 1), (4, 0), (5, 1), (SLOT, 3), (SLOT + 1, 255), (2, 2)];
     let mut all = Vec::from(links.map(|(at, byte)| records::with_byte(&good, at, byte)));
-    let changes: [fn(&mut Vec<u8>); 7] = [
+    let changes: [fn(&mut Vec<u8>); 8] = [
+        // the largest count, and a byte before it
+        |s| s[7..16].fill(255),
         // one key in both slots; one word in both
         |s| s.copy_within(SLOT + 2..SLOT + 51, 2 * SLOT + 2),
         |s| s.copy_within(SLOT + 3..SLOT + 51, 2 * SLOT + 3),
@@ -122,5 +127,23 @@ rows! { pub STORE:
         "store of 127 entries" => entries.len() == 127,
         "store in another order than its slots" => !ordered,
         "anything in unused slots" => !records::zeros(unused),
+        "store whose count is 0" => stores::count(store) == 0,
+        "store whose count is the largest" => stores::is_spent(store),
+    ]
+}
+
+/// The store with its count one higher. Tells what the count met.
+pub fn raised(store: &[u8], met: &mut Met) -> Vec<u8> {
+    let count = stores::count(store);
+    met.all(of_count(count));
+    stores::with_count(store, count + 1)
+}
+
+rows! { pub RAISED:
+    /// What a count has that becomes one higher.
+    of_count(count: u64) [
+        "count 0 becomes 1" => count == 0,
+        "count carries into the next byte" => count % 256 == 255,
+        "count becomes the largest" => count + 1 == u64::MAX,
     ]
 }

@@ -14,7 +14,7 @@ pub fn random(random: &mut Random, empty: &Scene, words: &[Vec<u8>], phones: &Ph
 }
 
 /// A sound store of so many slots, grown by so many adds; every other one is then renumbered, has other
-/// texts in it, or has anything in its unused slots.
+/// texts in it, another count, or anything in its unused slots.
 pub fn of_size(
     random: &mut Random,
     empty: &Scene,
@@ -36,7 +36,23 @@ pub fn of_size(
     if random.once_in(2) {
         spoil_unused(random, &mut store);
     }
+    if random.once_in(2) {
+        store = stores::with_count(&store, count(random));
+    }
     store
+}
+
+/// A count of any kind: none, few, one that soon carries, the largest or nearly, or any.
+pub fn count(random: &mut Random) -> u64 {
+    let few = random.below(300) as u64;
+    match random.weighted(&[1, 4, 4, 1, 2, 8]) {
+        0 => 0,
+        1 => few,
+        2 => (1 << (8 * random.between(1, 7))) - 1 - few % 3,
+        3 => u64::MAX,
+        4 => u64::MAX - 1 - few % 30,
+        _ => few | (few << 32) | (random.below(1 << 31) as u64) << random.below(34),
+    }
 }
 
 /// An entry that can be added, over some words or any.
@@ -117,7 +133,7 @@ pub fn damaged(random: &mut Random, store: &[u8]) -> Vec<u8> {
     let slots = store.len() / SLOT;
     let used = stores::unused(&store) / SLOT - 1;
     let slot = SLOT * random.between(usize::from(used > 0), used);
-    match random.below(15) {
+    match random.below(16) {
         0 => {
             let lengths = [0, SLOT - 1, store.len() - 1, store.len() + 1, LARGEST + SLOT];
             store.resize(lengths[random.below(5)], 0);
@@ -140,6 +156,7 @@ pub fn damaged(random: &mut Random, store: &[u8]) -> Vec<u8> {
             let links = (0..=used).map(|slot| SLOT * slot).chain([2]).collect();
             records::in_place_of(&mut store, SLOT, [slot / SLOT, used + 1], links);
         }
+        14 => store[random.pick_byte(&[6, 7, 16, 17, 255]) as usize] = random.byte(),
         _ => {
             let at = random.below(store.len());
             store[at] ^= 1 << random.below(8);
@@ -180,6 +197,7 @@ pub fn smaller(store: &[u8]) -> Vec<Vec<u8>> {
         stores::write(store, &chain.iter().map(placed).collect::<Vec<_>>())
     };
     let mut all: Vec<Vec<u8>> = chain.smaller().iter().map(rewritten).collect();
+    all.extend((stores::count(store) > 0).then(|| stores::with_count(store, 0)));
     let from = stores::unused(store);
     let lengths = [from, from + SLOT, from + 2 * SLOT];
     all.extend(records::less_behind(store, from, &lengths));

@@ -1,7 +1,8 @@
-//! The store: 01's layout, read and written by the driver itself.
+//! The store: 01's layout with 02's count (S-2), read and written by the driver itself.
 
 use crate::prelude::*;
 use crate::records::{number, put, zeros};
+use std::ops::Range;
 
 /// Bytes of a slot.
 pub const SLOT: usize = 512;
@@ -18,8 +19,11 @@ const WORD_END: usize = WORD + words::LONGEST;
 const COUNT: usize = WORD_END;
 const PHONES: usize = 64;
 const PHONES_END: usize = PHONES + MOST_PHONES * CELL;
-/// Where the fields of slot 0 end.
-const HEAD_END: usize = 6;
+/// Where the links of slot 0 end, and where all its fields do.
+const LINKS_END: usize = 6;
+pub const HEAD_END: usize = 16;
+/// Where its count stands: how often entries were added.
+const ADDED: Range<usize> = 8..HEAD_END;
 
 /// A runtime entry.
 #[derive(Clone, PartialEq, Eq)]
@@ -45,6 +49,23 @@ pub struct Placed {
 smaller!(Entry: phones, word);
 smaller!(Placed: entry);
 
+/// The count of a store.
+pub fn count(store: &[u8]) -> u64 {
+    u64::from_le_bytes(store[ADDED].try_into().expect("a count has eight bytes"))
+}
+
+/// A store with another count.
+pub fn with_count(store: &[u8], count: u64) -> Vec<u8> {
+    let mut store = store.to_vec();
+    store[ADDED].copy_from_slice(&count.to_le_bytes());
+    store
+}
+
+/// Whether the count is the largest, of any bytes.
+pub fn is_spent(store: &[u8]) -> bool {
+    store.get(ADDED) == Some(&[255; 8])
+}
+
 /// Whether a store's length is right.
 pub fn has_length(len: usize) -> bool {
     len % SLOT == 0 && (SLOT..=LARGEST).contains(&len)
@@ -52,6 +73,7 @@ pub fn has_length(len: usize) -> bool {
 
 /// The entries of a sound store, the oldest first; of any other store, what is amiss.
 pub fn read(store: &[u8]) -> Result<Vec<Placed>, &'static str> {
+    of_length(store.len())?;
     of_head(store)?;
     let slots: Vec<&[u8]> = store.chunks(SLOT).collect();
     let [first, last, used] = [0, 2, 4].map(|at| number(&slots[0][at..]));
@@ -78,10 +100,15 @@ fn read_slot(slot: &[u8]) -> Result<Entry, &'static str> {
 }
 
 checks! { pub UNSOUND:
-    /// A store's length, and its slot 0.
+    /// A store's length.
+    of_length(len: usize) [
+        "store: wrong length" => has_length(len),
+    ]
+
+    /// Its slot 0.
     of_head(store: &[u8]) [
-        "store: wrong length" => has_length(store.len()),
-        "store: bytes beside slot 0's fields" => zeros(&store[HEAD_END..SLOT]),
+        "store: bytes before the count" => zeros(&store[LINKS_END..ADDED.start]),
+        "store: bytes behind the count" => zeros(&store[HEAD_END..SLOT]),
         "store: more used than there are slots" => unused(store) <= store.len(),
     ]
 
@@ -126,13 +153,20 @@ checks! { pub UNSOUND:
     ]
 }
 
-/// The store with these entries, the oldest first, in their slots, which are 1 to so many. Slots past
-/// the used ones stay as they are.
+/// The rows of what is amiss in a store whose length is right.
+pub const UNSOUND_BYTES: &[Rows] = match UNSOUND {
+    [_length, bytes @ ..] => bytes,
+    [] => &[],
+};
+
+/// The store with these entries, the oldest first, in their slots, which are 1 to so many. Its count and the slots
+/// past the used ones stay as they are.
 pub fn write(store: &[u8], chain: &[Placed]) -> Vec<u8> {
     let mut store = store.to_vec();
     let slot_of = |at: usize| chain.get(at).map_or(0, |placed| placed.slot);
     let last = chain.last().map_or(0, |placed| placed.slot);
-    store[..SLOT].fill(0);
+    store[..ADDED.start].fill(0);
+    store[HEAD_END..SLOT].fill(0);
     for (at, value) in [(0, slot_of(0)), (2, last), (4, chain.len())] {
         put(&mut store, at, value);
     }
@@ -152,7 +186,9 @@ pub fn write(store: &[u8], chain: &[Placed]) -> Vec<u8> {
 
 /// A new store of so many slots, its other slots filled with a byte.
 pub fn new(slots: usize, fill: u8) -> Vec<u8> {
-    write(&vec![fill; SLOT * slots], &[])
+    let mut store = vec![fill; SLOT * slots];
+    store[..SLOT].fill(0);
+    store
 }
 
 /// The number of slots that entries can have.
@@ -166,10 +202,10 @@ pub fn unused(store: &[u8]) -> usize {
 }
 
 /// The first byte that differs though the add of this key has no part in it: it may touch slot 0's
-/// fields, the links of the slots, and the whole slot of the key, which is one of the used ones.
+/// links, the links of the slots, and the whole slot of the key, which is one of the used ones.
 pub fn stray(before: &[u8], after: &[u8], key_slot: usize) -> Option<usize> {
     let touched = |at: usize| match at / SLOT {
-        0 => at < HEAD_END,
+        0 => at < LINKS_END,
         slot if slot == key_slot => true,
         _ => at % SLOT < TAG,
     };

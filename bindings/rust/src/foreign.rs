@@ -9,7 +9,6 @@ use crate::refusal::{Refusal, Refused};
 /// What every call gives back, but for `pronouncer_read_settings`.
 #[repr(C)]
 #[derive(Clone, Copy)]
-#[allow(dead_code)] // the last field is 0 in every answer
 pub struct Answer {
     pub refusal: u32,
     pub kind: u32,
@@ -38,6 +37,16 @@ impl Answer {
     /// Where the letters stopped, in an answer of predict or of say_word.
     pub fn place(self) -> usize {
         self.second as usize
+    }
+
+    /// How many slots are newly used, in an answer of preview_entries.
+    pub fn newly_used(self) -> usize {
+        self.second as usize
+    }
+
+    /// How many lines replaced an entry, in an answer of preview_entries.
+    pub fn replaced(self) -> usize {
+        self.third as usize
     }
 }
 
@@ -144,6 +153,24 @@ extern "C" {
         spare_len: usize,
         text: *const u8,
         text_len: usize,
+    ) -> Answer;
+
+    fn pronouncer_preview_entries(
+        table: *const u8,
+        table_len: usize,
+        store: *const u8,
+        store_len: usize,
+        spare: *mut u8,
+        spare_len: usize,
+        text: *const u8,
+        text_len: usize,
+    ) -> Answer;
+
+    fn pronouncer_accept_entries(
+        store: *mut u8,
+        store_len: usize,
+        spare: *const u8,
+        spare_len: usize,
     ) -> Answer;
 
     fn pronouncer_new_sheet(sheet: *mut u8, sheet_len: usize) -> Answer;
@@ -310,6 +337,27 @@ pub fn add_entries(table: &[u8], store: &mut [u8], spare: &mut [u8], text: &[u8]
             text.as_ptr(),
             text.len(),
         )
+    }
+}
+
+pub fn preview_entries(table: &[u8], store: &[u8], spare: &mut [u8], text: &[u8]) -> Answer {
+    unsafe {
+        pronouncer_preview_entries(
+            table.as_ptr(),
+            table.len(),
+            store.as_ptr(),
+            store.len(),
+            spare.as_mut_ptr(),
+            spare.len(),
+            text.as_ptr(),
+            text.len(),
+        )
+    }
+}
+
+pub fn accept_entries(store: &mut [u8], spare: &[u8]) -> Answer {
+    unsafe {
+        pronouncer_accept_entries(store.as_mut_ptr(), store.len(), spare.as_ptr(), spare.len())
     }
 }
 

@@ -1,11 +1,11 @@
 //! The pronouncer: which phones a word has, cut into syllables, on a sheet; and the voice settings of a rack.
-//! Thirteen calls of a library that is written in Rattle and proved; this crate is plain Rust around it.
+//! Fifteen calls of a library that is written in Rattle and proved; this crate is plain Rust around it.
 //!
 //! Tables are handed over as borrowed sections ([`Lexicon`], [`Letters`], [`Sayable`]), entries are added to
 //! a lent [`Store`], words are said onto a lent [`Sheet`], settings are read from lent bytes and written there.
 //! No call allocates, and nothing is kept between calls but the bytes that were lent. Every call takes any
 //! bytes, also those of a stranger's file: it answers, or it is [`Refused`] and leaves every lent byte as it
-//! was, but for the spare of [`Store::add_entries`].
+//! was, but for the spare of [`Store::add_entries`] and [`Store::preview_entries`].
 //!
 //! ```
 //! use pronouncer::{example, Sheet, Store};
@@ -40,6 +40,8 @@
 //! | `new_store` | [`Store::new_store`] |
 //! | `add_entry` | [`Store::add_entry`] |
 //! | `add_entries` | [`Store::add_entries`] |
+//! | `preview_entries` | [`Store::preview_entries`] |
+//! | `accept_entries` | [`Preview::accept`], [`Store::accept_entries`] |
 //! | `new_sheet` | [`Sheet::new_sheet`] |
 //! | `say_word` | [`Sheet::say_word`] |
 //! | `phone_string` | [`Sheet::phone_string`] |
@@ -70,6 +72,7 @@ pub mod example;
 mod foreign;
 mod items;
 mod phones;
+mod preview;
 mod refusal;
 mod sections;
 mod settings;
@@ -81,6 +84,7 @@ mod unsound;
 
 pub use entries::{Entries, Entry};
 pub use phones::{is_vowel, split_stress, ListedPhones, PhoneList, Stress};
+pub use preview::Preview;
 pub use refusal::{Refusal, Refused};
 pub use sections::{Found, Letters, Lexicon, Predicted, Sayable, Source};
 pub use settings::{read_settings, write_setting, Setting, Settings};

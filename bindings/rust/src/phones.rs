@@ -197,7 +197,7 @@ impl fmt::Display for Stress {
     }
 }
 
-/// Whether a phone is a vowel; an unknown one is a consonant. Beyond the thirteen calls.
+/// Whether a phone is a vowel; an unknown one is a consonant. Beyond the fifteen calls.
 ///
 /// ```
 /// assert!(pronouncer::is_vowel("ae"));
@@ -208,7 +208,7 @@ pub fn is_vowel(phone: &str) -> bool {
     foreign::is_vowel(phone.as_bytes()).kind == 1
 }
 
-/// A phone without its stress, and the stress: the last "0" or "1", if it has one. Beyond the thirteen calls.
+/// A phone without its stress, and the stress: the last "0" or "1", if it has one. Beyond the fifteen calls.
 ///
 /// ```
 /// use pronouncer::{split_stress, Stress};

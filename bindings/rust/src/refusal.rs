@@ -18,8 +18,8 @@ use crate::unsound::Unsound;
 pub enum Refusal {
     /// 1: a section breaks its form.
     Section,
-    /// 2: a store or sheet has a wrong length or is not sound, settings have a wrong length, or the spare's
-    /// length is not the store's.
+    /// 2: a store or sheet has a wrong length or is not sound, settings have a wrong length, the spare's length is
+    /// not the store's, or a spare to be accepted is not a sound store.
     Unsound,
     /// 3: a word or tag is over 47 bytes, or a text has a byte of 128 or more.
     Text,
@@ -35,6 +35,9 @@ pub enum Refusal {
     Full,
     /// 9: the sheet has too few unused items, or an output is too short.
     Short,
+    /// 12: the spare to be accepted was filled from the store as it was before something else was accepted, or from
+    /// a text that stopped at a line; or the store's count is the largest.
+    Count,
     /// 15: the version of the settings or the reader's is neither 1 nor 2.
     Version,
     /// 16: the settings' records break their form, or a setting to be written is unknown or has no record.
@@ -58,6 +61,7 @@ impl Refusal {
             Refusal::Phones => 7,
             Refusal::Full => 8,
             Refusal::Short => 9,
+            Refusal::Count => 12,
             Refusal::Version => 15,
             Refusal::Records => 16,
             Refusal::Range => 17,
@@ -76,6 +80,7 @@ impl Refusal {
             7 => Refusal::Phones,
             8 => Refusal::Full,
             9 => Refusal::Short,
+            12 => Refusal::Count,
             15 => Refusal::Version,
             16 => Refusal::Records,
             17 => Refusal::Range,
@@ -89,7 +94,7 @@ impl Refusal {
             Refusal::Section => "a section breaks its form",
             Refusal::Unsound => {
                 "a store or sheet has a wrong length or is not sound, settings have a wrong length, \
-                 or the spare is not as long as the store"
+                 the spare is not as long as the store, or a spare to be accepted is not a sound store"
             }
             Refusal::Text => "a word or tag is over 47 bytes, or a text has a byte of 128 or more",
             Refusal::Line => "the line has no colon, or no word before it",
@@ -100,6 +105,10 @@ impl Refusal {
             }
             Refusal::Full => "the store has no unused slot and no entry of that word and tag",
             Refusal::Short => "the sheet has too few unused items, or the output is too short",
+            Refusal::Count => {
+                "the spare was filled from the store as it was before something else was accepted, \
+                 or from a text that stopped at a line, or the store's count is the largest"
+            }
             Refusal::Version => "the version of the settings or the reader's is neither 1 nor 2",
             Refusal::Records => {
                 "the settings have an index outside, a circle, a name twice or a length or kind out of range, \
@@ -121,7 +130,7 @@ impl Refusal {
             Refusal::Unsound => {
                 "lend a store of 512 to 65,536 bytes, a multiple of 512, or a sheet of 64 to 65,536, \
                  begin it with new_store or new_sheet, and let only calls write it; \
-                 lend settings of 32 to 65,536 bytes"
+                 lend settings of 32 to 65,536 bytes, and a spare as long as the store"
             }
             Refusal::Text => "write it shorter, or in ASCII",
             Refusal::Line => "write WORD TAG : PHONE PHONE, or begin the line with # if it is a remark",
@@ -138,6 +147,10 @@ impl Refusal {
             Refusal::Short => {
                 "begin a new sheet, or lend more bytes: 64 for each word, syllable and phone of a sheet, \
                  16 a phone, 1 a mark, 1 a character"
+            }
+            Refusal::Count => {
+                "preview the text again; where the store's count is the largest, \
+                 begin a new store and add its entries again"
             }
             Refusal::Version => {
                 "ask with version 1 or 2; settings of another version are read by the library that has it, \
@@ -157,8 +170,9 @@ impl Refusal {
     }
 }
 
-/// A refused call: why, and in which line. It says what is wrong and what to do. Nothing that was lent to the call was altered, but for the spare
-/// of [`Store::add_entries`](crate::Store::add_entries).
+/// A refused call: why, and in which line. It says what is wrong and what to do. Nothing that was lent to the
+/// call was altered, but for the spare of [`Store::add_entries`](crate::Store::add_entries) and
+/// [`Store::preview_entries`](crate::Store::preview_entries) where a line is at fault.
 ///
 /// ```
 /// use pronouncer::{example, Refusal, Store};

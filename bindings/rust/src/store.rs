@@ -2,11 +2,15 @@ use core::fmt;
 
 use crate::entries::{Entries, Entry};
 use crate::phones::PhoneList;
+use crate::preview::Preview;
 use crate::refusal::Refused;
 use crate::sections::Lexicon;
 use crate::{foreign, unsound};
 
-/// The entries added at run time, in lent bytes: slots of 512 bytes, of which the first keeps count. With
+/// The place of the count.
+const COUNT: usize = 8;
+
+/// The entries added at run time, in lent bytes: slots of 512 bytes, of which the first has no entry. With
 /// 65,536 bytes there is room for 127 entries.
 ///
 /// The bytes are all there is to a store. They may be kept in a file and lent again with [`Store::over`],
@@ -56,8 +60,9 @@ impl<'a> Store<'a> {
     /// # Errors
     ///
     /// [`Section`](crate::Refusal::Section) for lex.phones, [`Unsound`](crate::Refusal::Unsound),
-    /// [`Text`](crate::Refusal::Text), [`UnknownPhone`](crate::Refusal::UnknownPhone),
-    /// [`Phones`](crate::Refusal::Phones) for over 24 phones, [`Full`](crate::Refusal::Full).
+    /// [`Count`](crate::Refusal::Count) where the store's count is the largest, [`Text`](crate::Refusal::Text),
+    /// [`UnknownPhone`](crate::Refusal::UnknownPhone), [`Phones`](crate::Refusal::Phones) for over 24 phones,
+    /// [`Full`](crate::Refusal::Full).
     pub fn add_entry(
         &mut self,
         lexicon: &Lexicon<'_>,
@@ -71,19 +76,21 @@ impl<'a> Store<'a> {
         Ok(())
     }
 
-    /// Adds a text of entries, one a line, and tells how many lines it took: all entry lines, or none.
+    /// Adds a text of entries, one a line, and tells how many lines it took: all entry lines, or none. It is
+    /// [`preview_entries`](Store::preview_entries) and [`Preview::accept`] together.
     ///
     /// A line is `WORD TAG : PHONE PHONE`; the tag may be missing, what stands behind a "#" is a remark, and
-    /// a line without anything else is skipped. The spare is as long as the store. After success it equals
-    /// the store. Where a line is faulty, the store stays as it was and the spare shows how far the text
-    /// came: it holds the store with the lines before.
+    /// a line without anything else is skipped. The spare is as long as the store. After success the two differ
+    /// in the count only. Where a line is faulty, the store stays as it was and the spare shows how far the text
+    /// came: it holds the store with the lines before, and the largest count.
     ///
     /// # Errors
     ///
     /// With line 0, and then the spare too is left as it was: [`Section`](crate::Refusal::Section),
-    /// [`Unsound`](crate::Refusal::Unsound), also for the spare's length, [`Text`](crate::Refusal::Text) for
-    /// a byte of 128 or more anywhere. With the first faulty line: [`Text`](crate::Refusal::Text) for a word
-    /// or tag over 47 bytes, [`Line`](crate::Refusal::Line), [`UnknownPhone`](crate::Refusal::UnknownPhone),
+    /// [`Unsound`](crate::Refusal::Unsound), also for the spare's length, [`Count`](crate::Refusal::Count) where
+    /// the store's count is the largest, [`Text`](crate::Refusal::Text) for a byte of 128 or more anywhere. With
+    /// the first faulty line: [`Text`](crate::Refusal::Text) for a word or tag over 47 bytes,
+    /// [`Line`](crate::Refusal::Line), [`UnknownPhone`](crate::Refusal::UnknownPhone),
     /// [`Phones`](crate::Refusal::Phones), [`Full`](crate::Refusal::Full).
     ///
     /// ```
@@ -106,11 +113,97 @@ impl<'a> Store<'a> {
         spare: &mut [u8],
         text: impl AsRef<[u8]>,
     ) -> Result<usize, Refused> {
-        let answer = foreign::add_entries(lexicon.phones, self.bytes, spare, text.as_ref());
-        let answer = answer.accepted_on(|| {
-            unsound::in_store(self.bytes).or_else(|| unsound::in_spare(self.bytes, spare))
-        })?;
+        let answer = foreign::add_entries(lexicon.phones, self.bytes, spare, text.as_ref())
+            .accepted_on(|| unsound::in_spare(self.bytes, spare))?;
         Ok(answer.count())
+    }
+
+    /// Shows what a text of entries would change, and changes the spare alone: it gets the store with all lines
+    /// added. [`Preview::accept`] then takes it; a preview that is dropped changes nothing.
+    ///
+    /// Lines and spare are those of [`add_entries`](Store::add_entries).
+    ///
+    /// # Errors
+    ///
+    /// Those of [`add_entries`](Store::add_entries), but never [`Count`](crate::Refusal::Count). Where a line is
+    /// faulty the spare holds the store with the lines before, and the largest count, so that it is never accepted.
+    ///
+    /// ```
+    /// use pronouncer::{example, Store};
+    ///
+    /// let (mut slots, mut spare) = ([0; 8 * 512], [0; 8 * 512]);
+    /// let mut store = Store::new_store(&mut slots)?;
+    /// store.add_entries(&example::LEXICON, &mut spare, "lead n : l eh1 d")?;
+    ///
+    /// let text = "Lead n : l iy1 d\ngobo : g ow1 b ow0";
+    /// let preview = store.preview_entries(&example::LEXICON, &mut spare, text)?;
+    /// assert_eq!((preview.lines(), preview.newly_used(), preview.replaced()), (2, 1, 1));
+    /// preview.accept()?;
+    /// assert_eq!(format!("{store:?}"), "[lead n : l iy1 d, gobo 0 : g ow1 b ow0]");
+    /// # Ok::<(), pronouncer::Refused>(())
+    /// ```
+    pub fn preview_entries<'s>(
+        &'s mut self,
+        lexicon: &Lexicon<'_>,
+        spare: &'s mut [u8],
+        text: impl AsRef<[u8]>,
+    ) -> Result<Preview<'s, 'a>, Refused> {
+        let answer = foreign::preview_entries(lexicon.phones, self.bytes, spare, text.as_ref())
+            .accepted_on(|| unsound::in_spare(self.bytes, spare))?;
+        Ok(Preview::of(self, spare, answer))
+    }
+
+    /// Accepts a spare that [`preview_entries`](Store::preview_entries) filled and that was kept: the store gets its
+    /// bytes, with the count one higher. [`Preview::accept`] does it where the preview is still at hand.
+    ///
+    /// The counts alone tell whether the spare is this store's: one that another store of the same length and the
+    /// same count filled is taken too.
+    ///
+    /// # Errors
+    ///
+    /// [`Unsound`](crate::Refusal::Unsound) for the store, for the spare's length and for a spare that is not a
+    /// sound store; [`Count`](crate::Refusal::Count) where something else was accepted since, where the text had
+    /// stopped at a line, and where the store's count is the largest.
+    ///
+    /// ```
+    /// use pronouncer::{example, Refusal, Store};
+    ///
+    /// let (mut slots, mut spare) = ([0; 8 * 512], [0; 8 * 512]);
+    /// let mut store = Store::new_store(&mut slots)?;
+    /// let added = store.preview_entries(&example::LEXICON, &mut spare, "gobo : g ow1 b ow0")?.lines();
+    ///
+    /// // Seen and found good, and nothing else was added meanwhile.
+    /// assert_eq!((added, store.len()), (1, 0));
+    /// store.accept_entries(&spare)?;
+    /// assert_eq!((store.len(), store.count()), (1, 1));
+    ///
+    /// // The store is no longer as the preview saw it.
+    /// assert_eq!(store.accept_entries(&spare).unwrap_err().refusal, Refusal::Count);
+    /// # Ok::<(), pronouncer::Refused>(())
+    /// ```
+    pub fn accept_entries(&mut self, spare: &[u8]) -> Result<(), Refused> {
+        foreign::accept_entries(self.bytes, spare)
+            .accepted_on(|| unsound::in_filled_spare(self.bytes, spare))?;
+        Ok(())
+    }
+
+    /// How often entries were accepted: each call that adds an entry or a text, or accepts a spare, adds one. A new
+    /// store has 0, as have bytes that are too few to hold a count.
+    ///
+    /// ```
+    /// use pronouncer::{example, Store};
+    ///
+    /// let (mut slots, mut spare) = ([0; 8 * 512], [0; 8 * 512]);
+    /// let mut store = Store::new_store(&mut slots)?;
+    /// assert_eq!(store.count(), 0);
+    /// store.add_entries(&example::LEXICON, &mut spare, "# two\na : k\nb : t")?;
+    /// assert_eq!((store.count(), store.len()), (1, 2));
+    /// # Ok::<(), pronouncer::Refused>(())
+    /// ```
+    pub fn count(&self) -> u64 {
+        let place = COUNT..COUNT + size_of::<u64>();
+        let bytes = self.bytes.get(place).and_then(|bytes| bytes.try_into().ok());
+        bytes.map_or(0, u64::from_le_bytes)
     }
 
     /// The entries in the order in which a lookup tries them: one that was added again is the last.

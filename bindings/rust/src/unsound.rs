@@ -34,6 +34,8 @@ pub enum Unsound {
         /// Bytes of the spare.
         spare: usize,
     },
+    /// The spare is as long as the store and its bytes are no sound store: they are not what a preview wrote.
+    SpareBytes,
     /// The settings have so many bytes, which are not 32 to 65,536.
     SettingsLength(usize),
 }
@@ -47,6 +49,7 @@ impl Unsound {
             Unsound::SheetLength(_) => "lend 64 to 65,536",
             Unsound::SheetBytes => "begin it with new_sheet, and let only calls write it",
             Unsound::SpareLength { .. } => "lend a spare as long as the store",
+            Unsound::SpareBytes => "preview the text again, and let only calls write the spare",
             Unsound::SettingsLength(_) => "lend 32 to 65,536",
         }
     }
@@ -66,6 +69,9 @@ impl fmt::Display for Unsound {
             }
             Unsound::SpareLength { store, spare } => {
                 write!(f, "the spare has {spare} bytes and the store {store}")
+            }
+            Unsound::SpareBytes => {
+                f.write_str("the spare was never filled, or somebody else wrote into it")
             }
             Unsound::SettingsLength(bytes) => write!(f, "the settings have {bytes} bytes"),
         }
@@ -92,14 +98,18 @@ impl Answer {
 /// A section without phones, or without entries.
 const NONE: &[u8] = &[0; 4];
 
-/// Why bytes are no sound store. Whether they are, a lookup tells.
+/// Why bytes are no sound store.
 pub fn in_store(bytes: &[u8]) -> Option<Unsound> {
     let length = bytes.len();
     if length == 0 || length > LARGEST_BYTES || length % SLOT_BYTES != 0 {
         return Some(Unsound::StoreLength(length));
     }
-    let answer = foreign::lookup([NONE, NONE, b""], bytes, b"", b"", &mut []);
-    is_refused(answer).then_some(Unsound::StoreBytes)
+    (!is_sound(bytes)).then_some(Unsound::StoreBytes)
+}
+
+/// Whether bytes are a sound store, which a lookup tells.
+fn is_sound(bytes: &[u8]) -> bool {
+    !is_refused(foreign::lookup([NONE, NONE, b""], bytes, b"", b"", &mut []))
 }
 
 /// Why bytes are no sound sheet. Whether they are, a phone string tells.
@@ -111,10 +121,17 @@ pub fn in_sheet(bytes: &[u8]) -> Option<Unsound> {
     is_refused(foreign::phone_string(bytes, &mut [])).then_some(Unsound::SheetBytes)
 }
 
-/// Why a spare does not fit its store.
+/// Why a store is refused, or its spare, which may hold anything.
 pub fn in_spare(store: &[u8], spare: &[u8]) -> Option<Unsound> {
-    let (store, spare) = (store.len(), spare.len());
-    (store != spare).then_some(Unsound::SpareLength { store, spare })
+    in_store(store).or_else(|| {
+        let (store, spare) = (store.len(), spare.len());
+        (store != spare).then_some(Unsound::SpareLength { store, spare })
+    })
+}
+
+/// Why a store is refused, or its spare, which is to be accepted.
+pub fn in_filled_spare(store: &[u8], spare: &[u8]) -> Option<Unsound> {
+    in_spare(store, spare).or_else(|| (!is_sound(spare)).then_some(Unsound::SpareBytes))
 }
 
 /// Why settings are refused by 2, which their length alone decides.

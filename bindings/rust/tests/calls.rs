@@ -1,21 +1,24 @@
-//! A list of calls on one store and one sheet, refused ones among them, with the sheet read back after each.
+//! A list of calls on one store, its spare and one sheet, refused ones among them, with the sheet read back after
+//! each.
 
 mod sections;
 
 use pronouncer::{example, PhoneList, Refusal, Sheet, Store};
 use sections::{cells, reading};
 
-/// A store and a sheet that live through a list of calls.
+/// A store, its spare and a sheet that live through a list of calls.
 struct Show {
     slots: Vec<u8>,
+    spare: Vec<u8>,
     items: Vec<u8>,
 }
 
 impl Show {
-    /// A store of two entries and a sheet of 24 items, in bytes that held something else.
+    /// A store of two entries, an equal spare and a sheet of 24 items, in bytes that held something else.
     fn begun() -> Show {
-        let mut show = Show { slots: vec![0xff; 3 * 512], items: vec![0xff; 25 * 64 + 5] };
-        Store::new_store(&mut show.slots).expect("a store");
+        let mut slots = vec![0xff; 3 * 512];
+        Store::new_store(&mut slots).expect("a store");
+        let mut show = Show { spare: slots.clone(), slots, items: vec![0xff; 25 * 64 + 5] };
         show.clear();
         show
     }
@@ -36,6 +39,20 @@ impl Show {
         let mut spare = vec![3; self.slots.len()];
         let told = Store::over(&mut self.slots).add_entries(&example::LEXICON, &mut spare, text);
         told.map_err(|refused| (refused.refusal, refused.line))
+    }
+
+    /// Lines taken, slots newly used and lines that replaced an entry; or why there is nothing to see, and the
+    /// line.
+    fn preview(&mut self, text: &str) -> Result<(usize, usize, usize), (Refusal, usize)> {
+        let mut store = Store::over(&mut self.slots);
+        let told = store.preview_entries(&example::LEXICON, &mut self.spare, text);
+        told.map(|preview| (preview.lines(), preview.newly_used(), preview.replaced()))
+            .map_err(|refused| (refused.refusal, refused.line))
+    }
+
+    fn accept(&mut self) -> Result<(), Refusal> {
+        let told = Store::over(&mut self.slots).accept_entries(&self.spare);
+        told.map_err(|refused| refused.refusal)
     }
 
     /// Where the letters stopped, or why the word was not said.
@@ -127,6 +144,57 @@ fn a_text_is_taken_whole_or_not_at_all() {
         assert_eq!(show.say(word, ""), Ok(0));
     }
     assert_eq!(show.reads(), "b[b 0] gobo[g ow 0][b ow 1] b[iy 1]");
+}
+
+#[test]
+fn a_text_is_seen_before_it_is_taken() {
+    let mut show = Show::begun();
+    assert_eq!(show.preview("gobo : g ow1 b ow0"), Ok((1, 1, 0)));
+    assert_eq!(show.say("gobo", ""), Ok(0));
+    assert_eq!(show.accept(), Ok(()));
+    assert_eq!(show.say("gobo", ""), Ok(0));
+    let both = "gobo[g ow 1][b ow 1] gobo[g ow 1][b ow 0]";
+    assert_eq!(show.reads(), both);
+
+    // A text that stops spoils the spare; a byte of 128 or more leaves it.
+    assert_eq!(show.preview("b : iy1"), Ok((1, 1, 0)));
+    assert_eq!(show.preview("b : k\nb b"), Err((Refusal::Line, 2)));
+    assert_eq!(show.accept(), Err(Refusal::Count));
+    assert_eq!(show.preview("b : iy1"), Ok((1, 1, 0)));
+    assert_eq!(show.preview("b : k # é"), Err((Refusal::Text, 0)));
+    assert_eq!(show.accept(), Ok(()));
+    show.clear();
+    assert_eq!(show.say("b", ""), Ok(0));
+    assert_eq!(show.reads(), "b[iy 1]");
+}
+
+#[test]
+fn a_spare_goes_stale() {
+    let mut show = Show::begun();
+    // Equal to the store it is taken once, and then is behind by one.
+    assert_eq!((show.accept(), show.accept()), (Ok(()), Err(Refusal::Count)));
+
+    // Behind an entry, behind a text, and behind another spare.
+    assert_eq!(show.preview("b : iy1"), Ok((1, 1, 0)));
+    assert_eq!(show.add("b", "", &["b"]), Ok(()));
+    assert_eq!(show.accept(), Err(Refusal::Count));
+    assert_eq!(show.preview("b : iy1"), Ok((1, 0, 1)));
+    assert_eq!(show.add_text(""), Ok(0));
+    assert_eq!(show.accept(), Err(Refusal::Count));
+    assert_eq!(show.preview("b : iy1"), Ok((1, 0, 1)));
+    let kept = show.spare.clone();
+    assert_eq!(show.preview("b : eh1"), Ok((1, 0, 1)));
+    assert_eq!(show.accept(), Ok(()));
+    show.spare = kept;
+    assert_eq!(show.accept(), Err(Refusal::Count));
+    assert_eq!(show.say("b", ""), Ok(0));
+    assert_eq!(show.reads(), "b[eh 1]");
+
+    // Refused adds and previews between do not count.
+    assert_eq!(show.preview("b : iy1"), Ok((1, 0, 1)));
+    assert_eq!(show.add("c", "", &["qq"]), Err(Refusal::UnknownPhone));
+    assert_eq!(show.add_text("c"), Err((Refusal::Line, 1)));
+    assert_eq!(show.accept(), Ok(()));
 }
 
 #[test]

@@ -29,6 +29,8 @@ fn of_lengths() {
         caused(NO_WORDS.lookup(&store, "a", "", &mut []), cause);
         caused(store.add_entry(&NO_WORDS, "a", "", none), cause);
         caused(store.add_entries(&NO_WORDS, &mut [], "a : k"), cause);
+        caused(store.preview_entries(&NO_WORDS, &mut [], "a : k"), cause);
+        caused(store.accept_entries(&[]), cause);
     }
     for length in [0, 63, 65_537] {
         let (mut bytes, cause) = (vec![0; length], Unsound::SheetLength(length));
@@ -39,8 +41,8 @@ fn of_lengths() {
 
 #[test]
 fn of_bytes() {
-    // A link of slot 0 leads to a slot that is not used; a byte behind the fields of slot 0 is not 0.
-    for at in [0, 2, 4, 6, 511] {
+    // A link of slot 0 leads to a slot that is not used; a byte beside the fields of slot 0 is not 0.
+    for at in [0, 2, 4, 6, 7, 16, 511] {
         let mut bytes = a_store(2);
         bytes[at] = 1;
         let mut store = Store::over(&mut bytes);
@@ -48,6 +50,8 @@ fn of_bytes() {
         caused(NO_WORDS.lookup(&store, "a", "", &mut []), cause);
         caused(store.add_entry(&NO_WORDS, "a", "", none), cause);
         caused(store.add_entries(&NO_WORDS, &mut [], "a : k"), cause);
+        caused(store.preview_entries(&NO_WORDS, &mut [], "a : k"), cause);
+        caused(store.accept_entries(&[]), cause);
     }
     let mut items = vec![0; 128];
     items[8] = 1;
@@ -58,9 +62,41 @@ fn of_bytes() {
 #[test]
 fn of_a_spare() {
     for spare in [0, 512, 1536] {
-        let mut bytes = a_store(2);
-        let told = Store::over(&mut bytes).add_entries(&NO_WORDS, &mut vec![0; spare], "a : k");
-        caused(told, Unsound::SpareLength { store: 1024, spare });
+        let (mut bytes, mut lent) = (a_store(2), vec![0; spare]);
+        let (mut store, cause) =
+            (Store::over(&mut bytes), Unsound::SpareLength { store: 1024, spare });
+        caused(store.add_entries(&NO_WORDS, &mut lent, "a : k"), cause);
+        caused(store.preview_entries(&NO_WORDS, &mut lent, "a : k"), cause);
+        caused(store.accept_entries(&lent), cause);
+    }
+}
+
+#[test]
+fn of_a_spare_to_be_accepted() {
+    // The count may be anything; what stands beside it may not.
+    for at in [0, 2, 4, 6, 7, 16, 511] {
+        let (mut bytes, mut spare) = (a_store(2), a_store(2));
+        spare[at] = 1;
+        caused(Store::over(&mut bytes).accept_entries(&spare), Unsound::SpareBytes);
+        // The store comes before the spare.
+        let mut bytes = spare.clone();
+        caused(Store::over(&mut bytes).accept_entries(&spare), Unsound::StoreBytes);
+    }
+    let spare = vec![9; 1024];
+    caused(Store::over(&mut a_store(2)).accept_entries(&spare), Unsound::SpareBytes);
+}
+
+#[test]
+fn none_of_a_count() {
+    for at in 8..16 {
+        let (mut bytes, mut spare) = (a_store(2), vec![0; 1024]);
+        bytes[at] = 200;
+        let mut store = Store::over(&mut bytes);
+        assert!(NO_WORDS.lookup(&store, "a", "", &mut []).is_ok());
+        assert!(store.preview_entries(&NO_WORDS, &mut spare, "a : k").is_ok());
+        let refused = store.accept_entries(&a_store(2)).expect_err("the counts differ");
+        assert_eq!((refused.refusal, refused.unsound), (Refusal::Count, None));
+        assert_eq!(store.add_entries(&NO_WORDS, &mut spare, "a : k"), Ok(1));
     }
 }
 
@@ -114,6 +150,11 @@ fn its_message() {
                 spare: 512,
             },
             "the spare has 512 bytes and the store 1024 (refusal 2); lend a spare as long as the store",
+        ),
+        (
+            Unsound::SpareBytes,
+            "the spare was never filled, or somebody else wrote into it (refusal 2); \
+             preview the text again, and let only calls write the spare",
         ),
         (
             Unsound::SettingsLength(31),

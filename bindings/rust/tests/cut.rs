@@ -107,6 +107,12 @@ fn sheet_and_store() {
     sheet
         .say_word(&example::LEXICON, &example::LETTERS, &store, &word, &tag)
         .expect("five items are enough");
+    let preview = store.preview_entries(&example::LEXICON, &mut spare, &text);
+    assert_eq!(preview.and_then(|preview| preview.accept()), Ok(()));
+    for length in 0..spare.len() {
+        let told = store.accept_entries(&cut(&spare, length)).map_err(|refused| refused.refusal);
+        assert_eq!(told, Err(Refusal::Unsound), "cut after {length}");
+    }
     let store_bytes = store.bytes().to_vec();
 
     let string = |bytes: &[u8]| {

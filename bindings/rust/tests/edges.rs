@@ -1,9 +1,10 @@
-//! Sizes at their edges: a full store, a full sheet, and outputs of exactly the bytes that are needed.
+//! Sizes at their edges: a full store, the largest count, a full sheet, and outputs of exactly the bytes that are
+//! needed.
 
 mod sections;
 
 use pronouncer::{example, PhoneList, Refusal, Sheet, Store, ITEM_BYTES, LARGEST_BYTES};
-use sections::{cells, reading, NO_WORDS};
+use sections::{cells, reading, with_count, NO_WORDS};
 
 #[test]
 fn a_store_of_127_entries() {
@@ -29,6 +30,82 @@ fn a_store_of_127_entries() {
     for word in ["word0", "word126"] {
         let found = NO_WORDS.lookup(&store, word, "", &mut out).expect("it is accepted");
         assert_eq!(found.expect("it was added").phones.len(), 24);
+    }
+}
+
+/// Lines taken, slots newly used and lines that replaced an entry; or why not, and the line.
+fn previewed(
+    store: &mut Store<'_>,
+    spare: &mut [u8],
+    text: &str,
+) -> Result<(usize, usize, usize), (Refusal, usize)> {
+    let told = store.preview_entries(&NO_WORDS, spare, text);
+    told.map(|preview| (preview.lines(), preview.newly_used(), preview.replaced()))
+        .map_err(|refused| (refused.refusal, refused.line))
+}
+
+#[test]
+fn texts_of_127_and_128_entries() {
+    let (mut slots, mut spare) = (vec![0xff; LARGEST_BYTES], vec![0; LARGEST_BYTES]);
+    let mut store = Store::new_store(&mut slots).expect("a store");
+    let text: String = (0..127).map(|number| format!("word{number} : k\n")).collect();
+    let longer = format!("{text}word127 : k");
+
+    assert_eq!(previewed(&mut store, &mut spare, &longer), Err((Refusal::Full, 128)));
+    assert_eq!((Store::over(&mut spare).len(), Store::over(&mut spare).count()), (127, u64::MAX));
+    assert_eq!((store.len(), store.count()), (0, 0));
+    assert_eq!(previewed(&mut store, &mut spare, &text), Ok((127, 127, 0)));
+    assert_eq!(store.accept_entries(&spare), Ok(()));
+    assert_eq!((store.len(), store.count()), (127, 1));
+
+    let twice = [&text[..], &text].concat();
+    assert_eq!(previewed(&mut store, &mut spare, &twice), Ok((254, 0, 254)));
+    assert_eq!(store.accept_entries(&spare), Ok(()));
+    assert_eq!((store.len(), store.count()), (127, 2));
+    assert_eq!(previewed(&mut store, &mut spare, &longer), Err((Refusal::Full, 128)));
+}
+
+#[test]
+fn the_largest_count() {
+    let mut new = vec![0; 2 * 512];
+    Store::new_store(&mut new).expect("a store");
+    let none = PhoneList::from_cells(b"");
+    type Add = fn(&mut Store<'_>) -> Result<(), Refusal>;
+    let adds: [Add; 3] = [
+        |store| {
+            let told = store.add_entry(&NO_WORDS, "a", "", PhoneList::from_cells(b""));
+            told.map_err(|refused| refused.refusal)
+        },
+        |store| {
+            let told = store.add_entries(&NO_WORDS, &mut [0; 1024], "a :");
+            told.map(drop).map_err(|refused| refused.refusal)
+        },
+        |store| {
+            let mut spare = [0; 1024];
+            let preview = store.preview_entries(&NO_WORDS, &mut spare, "a :");
+            preview.expect("it is shown at every count").accept().map_err(|refused| refused.refusal)
+        },
+    ];
+    for add in adds {
+        let mut slots = with_count(&new, u64::MAX - 2);
+        let mut store = Store::over(&mut slots);
+        for count in [u64::MAX - 1, u64::MAX] {
+            assert_eq!((add(&mut store), store.count()), (Ok(()), count));
+        }
+        let before = store.bytes().to_vec();
+        assert_eq!(add(&mut store), Err(Refusal::Count));
+        assert_eq!(store.bytes(), before);
+        // Lookups go on.
+        assert!(NO_WORDS.lookup(&store, "a", "", &mut []).expect("it is accepted").is_some());
+
+        // The cure: a new store with the same entries.
+        let mut longer = vec![0; 3 * 512];
+        let mut other = Store::new_store(&mut longer).expect("a store");
+        for entry in &store {
+            other.add_entry(&NO_WORDS, entry.word, entry.tag, entry.phones).expect("it is added");
+        }
+        assert_eq!((other.len(), other.count()), (1, 1));
+        assert_eq!(other.add_entry(&NO_WORDS, "b", "", none), Ok(()));
     }
 }
 

@@ -12,6 +12,8 @@ fn reading(bytes: &mut [u8]) -> String {
     let (len, is_empty) = (store.len(), store.is_empty());
     assert_eq!(is_empty, len == 0);
     assert_eq!((&store).into_iter().count(), store.len());
+    let count = store.bytes().get(8..16).map(|bytes| bytes.try_into().expect("eight bytes"));
+    assert_eq!(store.count(), count.map_or(0, u64::from_le_bytes));
     let mut entries = store.iter();
     entries.by_ref().for_each(drop);
     assert!(entries.next().is_none(), "what has ended stays so");

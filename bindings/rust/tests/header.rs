@@ -1,6 +1,6 @@
 //! The C header compiles alone, as C and as C++, and C programs link with the library: the example says its
-//! words, kinds that no Rust can hand over are refused, and C is told where letters stopped. Where there is no
-//! compiler these tests say so and pass.
+//! words, kinds that no Rust can hand over are refused, and C is told where letters stopped and what a preview
+//! saw. Where there is no compiler these tests say so and pass.
 
 use std::path::{Path, PathBuf};
 use std::process::{Command, Output};
@@ -56,7 +56,8 @@ fn printed(source: &Path, name: &str) -> Option<String> {
 
 #[test]
 fn example_links_and_runs() {
-    let wanted = "tempo#k: only \"k\" was read\n\
+    let wanted = "lines 1, new 1, replaced 0\n\
+        tempo#k: only \"k\" was read\n\
         t ao r m eh n t er ey\npitch 120, stretch 1, level 80, rack 1.5\n";
     let said = printed(&c_file("example.c"), "example");
     said.into_iter().for_each(|said| assert_eq!(said, wanted));
@@ -76,4 +77,9 @@ fn kinds_of_settings() {
 #[test]
 fn places_where_letters_stopped() {
     ends_well("places");
+}
+
+#[test]
+fn previews() {
+    ends_well("previews");
 }

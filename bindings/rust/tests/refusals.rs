@@ -6,7 +6,7 @@ mod sections;
 use pronouncer::{
     example, Letters, Lexicon, PhoneList, Refusal, Refused, Sayable, Sheet, Store, LIST_BYTES,
 };
-use sections::{cells, entries, phone_table, NO_TREES, NO_WORDS};
+use sections::{cells, entries, phone_table, with_count, NO_TREES, NO_WORDS};
 
 /// A section that breaks every form but that of lex.data.
 const BROKEN: &[u8] = b"\xff\xff\xff";
@@ -149,13 +149,19 @@ fn add_entry() {
     let (many, known) = (PhoneList::from_cells(&many), cells(&["k"; 25]));
     let known = PhoneList::from_cells(&known);
     let broken = Lexicon { phones: BROKEN, ..NO_WORDS };
-    let (mut full, mut bad) = (new_store(1), vec![7; 512]);
+    let (mut full, mut bad) = (new_store(1), with_count(&[7; 512], u64::MAX));
+    let mut largest = with_count(&full, u64::MAX);
     stays(&mut bad, Refusal::Section, |bytes| {
         Store::over(bytes).add_entry(&broken, BAD_WORDS[0], "", many)
     });
     stays(&mut bad, Refusal::Unsound, |bytes| {
         Store::over(bytes).add_entry(&NO_WORDS, BAD_WORDS[0], "", many)
     });
+    for (word, phones) in [(BAD_WORDS[0], many), (BAD_WORDS[1], known), (b"a", many)] {
+        stays(&mut largest, Refusal::Count, |bytes| {
+            Store::over(bytes).add_entry(&NO_WORDS, word, "", phones)
+        });
+    }
     for word in BAD_WORDS {
         stays(&mut full, Refusal::Text, |bytes| {
             Store::over(bytes).add_entry(&NO_WORDS, word, "", many)
@@ -174,24 +180,65 @@ fn add_entry() {
     stays(&mut full, Refusal::Full, |bytes| Store::over(bytes).add_entry(&NO_WORDS, "a", "", none));
 }
 
+/// A call that takes a text of entries, and tells how many lines it took.
+type Taking = fn(&mut Store<'_>, &Lexicon<'_>, &mut [u8], &[u8]) -> Result<usize, Refused>;
+
+fn add_text(
+    store: &mut Store<'_>,
+    lexicon: &Lexicon<'_>,
+    spare: &mut [u8],
+    text: &[u8],
+) -> Result<usize, Refused> {
+    store.add_entries(lexicon, spare, text)
+}
+
+fn preview_text(
+    store: &mut Store<'_>,
+    lexicon: &Lexicon<'_>,
+    spare: &mut [u8],
+    text: &[u8],
+) -> Result<usize, Refused> {
+    store.preview_entries(lexicon, spare, text).map(|preview| preview.lines())
+}
+
+/// Each call that takes a text, and what the largest count is refused by where the text has a byte of 128.
+const TAKING: [(Taking, Refusal); 2] = [(add_text, Refusal::Count), (preview_text, Refusal::Text)];
+
 #[test]
-fn add_entries_as_a_whole() {
+fn a_text_as_a_whole() {
     let broken = Lexicon { phones: BROKEN, ..NO_WORDS };
-    let (mut good, mut bad) = (new_store(2), vec![7; 1024]);
+    let (mut good, mut bad) = (new_store(2), with_count(&[7; 1024], u64::MAX));
+    let mut largest = with_count(&good, u64::MAX);
     let text: &[u8] = b"a : k\nno colon\n# \x80";
-    let run = |lexicon: &Lexicon<'_>, store: &mut [u8], spare: usize, refusal: Refusal| {
-        let mut spare = vec![9; spare];
-        stays(store, refusal, |bytes| Store::over(bytes).add_entries(lexicon, &mut spare, text));
-        assert!(spare.iter().all(|&byte| byte == 9), "{refusal:?} altered the spare");
-    };
-    run(&broken, &mut bad, 512, Refusal::Section);
-    run(&NO_WORDS, &mut bad, 1024, Refusal::Unsound);
-    run(&NO_WORDS, &mut good, 512, Refusal::Unsound);
-    run(&NO_WORDS, &mut good, 1024, Refusal::Text);
+    for (take, at_the_largest) in TAKING {
+        let run = |lexicon: &Lexicon<'_>, store: &mut [u8], spare: usize, refusal: Refusal| {
+            let mut spare = vec![9; spare];
+            stays(store, refusal, |bytes| take(&mut Store::over(bytes), lexicon, &mut spare, text));
+            assert!(spare.iter().all(|&byte| byte == 9), "{refusal:?} altered the spare");
+        };
+        run(&broken, &mut bad, 512, Refusal::Section);
+        run(&NO_WORDS, &mut bad, 1024, Refusal::Unsound);
+        run(&NO_WORDS, &mut good, 512, Refusal::Unsound);
+        run(&NO_WORDS, &mut largest, 512, Refusal::Unsound);
+        run(&NO_WORDS, &mut largest, 1024, at_the_largest);
+        run(&NO_WORDS, &mut good, 1024, Refusal::Text);
+    }
 }
 
 #[test]
-fn add_entries_at_a_line() {
+fn the_largest_count_before_a_line() {
+    let mut store = with_count(&new_store(2), u64::MAX);
+    let mut spare = vec![9; 1024];
+    stays(&mut store, Refusal::Count, |bytes| {
+        Store::over(bytes).add_entries(&NO_WORDS, &mut spare, "no colon")
+    });
+    assert_eq!(spare, [9; 1024], "the spare stays as it was");
+    let told = Store::over(&mut store).preview_entries(&NO_WORDS, &mut spare, "no colon").map(drop);
+    assert_eq!(told.map_err(|told| (told.refusal, told.line)), Err((Refusal::Line, 1)));
+}
+
+#[test]
+fn a_text_at_a_line() {
     let long = format!("{} : k", "w".repeat(48));
     let many = format!("c : {}", "k ".repeat(25));
     let faults = [
@@ -208,15 +255,48 @@ fn add_entries_at_a_line() {
         let phones = PhoneList::from_cells(&cells);
         Store::over(&mut after).add_entry(&NO_WORDS, word, "", phones).expect("it is added");
     }
+    let after = with_count(&after, u64::MAX);
     for (line, refusal) in faults {
-        let (mut store, mut spare) = (new_store(3), vec![9; 3 * 512]);
         let text = format!("# two names\nA : k\n\n b nil : k\n{line}\nneither this");
-        let told = Store::over(&mut store).add_entries(&NO_WORDS, &mut spare, text);
-        let told = told.expect_err("it must be refused");
-        assert_eq!((told.refusal, told.line, told.unsound), (refusal, 5, None));
-        assert_eq!(store, new_store(3), "{refusal:?} altered the store");
-        assert_eq!(spare, after, "the spare holds the lines before");
+        for (take, _) in TAKING {
+            let (mut store, mut spare) = (new_store(3), vec![9; 3 * 512]);
+            let told = take(&mut Store::over(&mut store), &NO_WORDS, &mut spare, text.as_bytes());
+            let told = told.expect_err("it must be refused");
+            assert_eq!((told.refusal, told.line, told.unsound), (refusal, 5, None));
+            assert_eq!(store, new_store(3), "{refusal:?} altered the store");
+            assert_eq!(spare, after, "the spare holds the lines before, and the largest count");
+            stays(&mut store, Refusal::Count, |bytes| Store::over(bytes).accept_entries(&spare));
+        }
     }
+}
+
+#[test]
+fn accept_entries() {
+    let (good, mut filled) = (new_store(2), vec![9; 1024]);
+    let mut store = good.clone();
+    let taken = preview_text(&mut Store::over(&mut store), &NO_WORDS, &mut filled, b"a : k");
+    assert_eq!(taken, Ok(1));
+    let run = |store: &[u8], spare: &[u8], refusal: Refusal| {
+        stays(&mut store.to_vec(), refusal, |bytes| Store::over(bytes).accept_entries(spare));
+    };
+    // Not sound, be the counts as they may.
+    let spoilt = |bytes: &[u8]| [&bytes[..6], &[1], &bytes[7..]].concat();
+    let largest = with_count(&good, u64::MAX);
+    for store in [&good, &largest] {
+        run(&spoilt(store), &filled, Refusal::Unsound);
+        run(&store[..512], &filled, Refusal::Unsound);
+        run(store, &filled[..512], Refusal::Unsound);
+        run(store, &spoilt(&filled), Refusal::Unsound);
+        run(store, &[9; 1024], Refusal::Unsound);
+    }
+    // Other counts, above and below; and the largest in both.
+    for count in [1, 255, 256, 1 << 56, u64::MAX] {
+        run(&good, &with_count(&filled, count), Refusal::Count);
+        run(&with_count(&good, count), &filled, Refusal::Count);
+    }
+    run(&largest, &with_count(&filled, u64::MAX), Refusal::Count);
+    assert_eq!(Store::over(&mut store).accept_entries(&filled), Ok(()));
+    assert_eq!(store, with_count(&filled, 1));
 }
 
 /// What a word is said with; each test spoils some of it.
@@ -301,6 +381,7 @@ fn each_message_says_cause_and_cure() {
         (Refusal::Phones, 7),
         (Refusal::Full, 8),
         (Refusal::Short, 9),
+        (Refusal::Count, 12),
         (Refusal::Version, 15),
         (Refusal::Records, 16),
         (Refusal::Range, 17),

@@ -4,7 +4,7 @@ use std::fs;
 use std::path::PathBuf;
 use std::process::Command;
 
-use crate::running::{command, folder, run_command, Ended};
+use crate::running::{command_in, folder, names_in, run_command, Ended};
 
 /// The kinds.
 pub const WHOLE: u8 = 1;
@@ -70,18 +70,12 @@ impl Rack {
 
     /// The names in the folder.
     pub fn names(&self) -> Vec<String> {
-        let entries = fs::read_dir(&self.0).expect("it is there");
-        let names = entries.map(|entry| entry.expect("an entry").file_name());
-        let mut names: Vec<String> = names.map(|name| name.to_string_lossy().into()).collect();
-        names.sort();
-        names
+        names_in(&self.0)
     }
 
     /// The program with arguments, to be run in the folder.
     pub fn command(&self, arguments: &[&str]) -> Command {
-        let mut command = command(env!("CARGO_BIN_EXE_rack_settings"), arguments);
-        command.current_dir(&self.0);
-        command
+        command_in(&self.0, env!("CARGO_BIN_EXE_rack_settings"), arguments)
     }
 
     /// Runs the program in the folder.
@@ -92,8 +86,6 @@ impl Rack {
     /// Runs a line of the shell there; `$0` is the program.
     pub fn shell(&self, line: &str) -> Ended {
         let program = env!("CARGO_BIN_EXE_rack_settings");
-        let mut command = command("sh", &["-c", line, program]);
-        command.current_dir(&self.0);
-        run_command(command, "")
+        run_command(command_in(&self.0, "sh", &["-c", line, program]), "")
     }
 }

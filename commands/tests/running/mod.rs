@@ -34,6 +34,13 @@ pub fn command(program: &str, arguments: &[impl AsRef<OsStr>]) -> Command {
     command
 }
 
+/// The same, to be run in another folder.
+pub fn command_in(folder: &Path, program: &str, arguments: &[impl AsRef<OsStr>]) -> Command {
+    let mut command = command(program, arguments);
+    command.current_dir(folder);
+    command
+}
+
 /// Runs a program to its end.
 pub fn run(program: &str, arguments: &[impl AsRef<OsStr>], input: impl AsRef<[u8]>) -> Ended {
     run_command(command(program, arguments), input)
@@ -68,6 +75,15 @@ pub fn folder(name: &str) -> PathBuf {
     let _ = fs::remove_dir_all(&folder);
     fs::create_dir_all(&folder).expect("a folder can be made");
     folder
+}
+
+/// The names in a folder.
+pub fn names_in(folder: &Path) -> Vec<String> {
+    let entries = fs::read_dir(folder).expect("it is there");
+    let names = entries.map(|entry| entry.expect("an entry").file_name());
+    let mut names: Vec<String> = names.map(|name| name.to_string_lossy().into()).collect();
+    names.sort();
+    names
 }
 
 /// Writes a file, and gives its path as an argument.

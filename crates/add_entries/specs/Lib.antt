@@ -1,3 +1,4 @@
--- To believe: AddEntries says what add text does; Accepted what an accepted text leaves.
+-- To believe: AddEntries says what add text does; Ends what it leaves, and BothSteps that it is both steps of 02, S-2, together.
 pub mod AddEntries
-pub mod Accepted
+pub mod Ends
+pub mod BothSteps

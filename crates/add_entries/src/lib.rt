@@ -1,4 +1,4 @@
-// add text (01, Lookup: Adding): each entry line of a text added in turn, all of them or none.
+// add text (01, Lookup: Adding; both steps of 02, S-2, together): each entry line of a text added in turn, all of them or none.
 ghost use mathlib.Core.Path.{_≡_};
 ghost use Rattle.answers.specs.Told.{toldLines};
 ghost use Rattle.add_entries.specs.AddEntries.{addEntries, storeAfter, spareAfter};
@@ -18,6 +18,9 @@ pub fn add_entries(table: &[u8], store: &mut [u8], spare: &mut [u8], text: &[u8]
     }
     if spare.len() != store.len() {
         return Lines::Refused(Refusal::Unsound, 0);
+    }
+    if counting::count(store) == counting::largest() {
+        return Lines::Refused(Refusal::Count, 0);
     }
     if !texts::is_ascii(text) {
         return Lines::Refused(Refusal::Text, 0);

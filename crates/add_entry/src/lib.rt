@@ -1,4 +1,4 @@
-// add entry (01, Lookup: Adding).
+// add entry (01, Lookup: Adding; the count of 02, S-2).
 ghost use mathlib.Core.Path.{_≡_};
 ghost use Rattle.answers.specs.Told.{toldDone};
 ghost use Rattle.add_entry.specs.AddEntry.{addEntry, storeAfter};
@@ -15,6 +15,10 @@ pub fn add_entry(table: &[u8], store: &mut [u8], word: &[u8], tag: &[u8], phones
     if !sound_store::is_sound(store) {
         return Done::Refused(Refusal::Unsound);
     }
+    let seen = counting::count(store);
+    if seen == counting::largest() {
+        return Done::Refused(Refusal::Count);
+    }
     if !adding::are_texts(word, tag, phones) {
         return Done::Refused(Refusal::Text);
     }
@@ -25,6 +29,7 @@ pub fn add_entry(table: &[u8], store: &mut [u8], word: &[u8], tag: &[u8], phones
         return Done::Refused(Refusal::Phones);
     }
     if adding::add_folded(store, adding::added_tag(tag), word, phones) {
+        counting::set_count(store, seen + 1);
         return Done::Accepted;
     }
     Done::Refused(Refusal::Full)

@@ -1,11 +1,16 @@
--- 01, Lookup: Adding. The lines of a text in turn, up to the first fault, and the entries that they add.
+-- 01, Lookup: Adding, and 02, S-2. The lines of a text in turn, up to the first fault, the entries that they add, and the spare behind them.
 -- Assumes nothing.
-use Prim.Native.Nat.{ℕ, _+_}
+use Prim.Native.Nat.{ℕ, _+_, _-_}
 use mathlib.Core.List.{List, [], _∷_, _++_}
+use lib.Dec.{eqb}
+use Rattle.texts.specs.Choice.{if_then_else_, bit}
+use Rattle.texts.specs.Lists.{some}
+use Rattle.lines.specs.Lines.{lines}
 use Rattle.slots_spec.specs.Slot.{Entry}
+use Rattle.store_spec.specs.Store.{used, entries, sameKey, withCount, largest}
 use Rattle.store_spec.specs.Adding.{adding}
 use Rattle.answers.specs.declared.Answer.{Answer}
-use Rattle.answers.specs.Told.{refusalNumber, refused, accepted}
+use Rattle.answers.specs.Told.{refusalNumber, refused, accepted, acceptedWith}
 use Rattle.addtext_spec.specs.Line.{Line, skipped, faulty, entry, readLine, lineEntry, outcome, behindLine}
 use Rattle.addtext_spec.specs.declared.Outcome.{Outcome}
 use Rattle.addtext_spec.specs.declared.Outcome.the-variants.{Skipped, Taken, Refused}
@@ -27,6 +32,10 @@ filled table store n k [] = record { answer = accepted 0 k; store = store }
 filled table store n k (l ∷ ls) =
     onward n k (behindLine table store (readLine l)) (λ (m : ℕ). filled table (behindLine table store (readLine l)) (n + 1) m ls) (outcome table store (readLine l))
 
+-- the lines of a text, counted from 1
+abbrev pub textFilled : List ℕ → List ℕ → List ℕ → Filled
+textFilled table store text = filled table store 1 0 (lines text)
+
 -- the entries of the lines, in their order
 unfoldable pub entriesOf : Line → List Entry
 entriesOf skipped = []
@@ -41,3 +50,19 @@ lineEntries (l ∷ ls) = entriesOf (readLine l) ++ lineEntries ls
 unfoldable pub addingAll : List Entry → List Entry → List Entry
 addingAll [] es = es
 addingAll (e ∷ more) es = addingAll more (adding e es)
+
+-- of entries added in turn, how many replace one, an earlier one of them included (02, S-2)
+unfoldable pub replacing : List Entry → List Entry → ℕ
+replacing [] es = 0
+replacing (e ∷ more) es = bit (some (sameKey e) es) + replacing more (adding e es)
+
+-- the spare behind the lines carries the count seen; where one stopped them, the largest (02, S-2)
+unfoldable pub spareFilled : Filled → List ℕ
+spareFilled f = if eqb (f .answer .refusal) 0 then f .store else withCount (f .store) largest
+
+-- what is told of a text that came so far: how many lines were taken, how many slots are newly used, how many lines replaced an entry (02, S-2)
+unfoldable pub toldFilled : List ℕ → List ℕ → Filled → Answer
+toldFilled store text f =
+    if eqb (f .answer .refusal) 0
+    then acceptedWith 0 (f .answer .value) (used (f .store) - used store) (replacing (lineEntries (lines text)) (entries store))
+    else f .answer

@@ -1,4 +1,5 @@
--- A line of a text below 128 that is taken adds an entry that fits, so the store stays sound; lines that are all taken add their entries in turn.
+-- A line of a text below 128 that is taken adds an entry that fits, so the store stays sound; lines that are all taken add their
+-- entries in turn and leave the count, and a stop leaves the largest.
 -- Assumes nothing.
 use Prim.Native.Nat.{ℕ, _+_}
 use native.Mathlib.Omega.{arith}
@@ -15,11 +16,12 @@ use Rattle.data.specs.Sections.{isPhoneTable}
 use Rattle.lines.specs.Lines.{content, field, isEmpty, fields, afterField}
 use Rattle.lines.specs.Laws.Ascii.{ascii-content, ascii-field, ascii-after, ascii-stripped}
 use Rattle.slots_spec.specs.Slot.{Entry, Fits, folded-small}
-use Rattle.store_spec.specs.Store.{entries}
+use Rattle.store_spec.specs.Store.{entries, count, withCount, largest}
 use Rattle.store_spec.specs.Adding.{isFull, added}
 use Rattle.store_spec.specs.Sound.{Sound}
 use Rattle.store_spec.specs.Result.{Added}
 use Rattle.store_spec.specs.Added.{room}
+use Rattle.store_spec.specs.Laws.Counts.{counted-length, counted-count, count-same}
 use Rattle.lexicon_spec.specs.Adding.{mayAdd}
 use Rattle.lexicon_spec.specs.Laws.Fitting.{fold-word, tag-low}
 use Rattle.addtext_spec.specs.Filling.{Filled, onward, filled, entriesOf, lineEntries, addingAll}
@@ -30,7 +32,8 @@ use Rattle.answers.specs.declared.Refusal.the-variants.{Text, UnknownPhone, Pho
 use Rattle.answers.specs.declared.Answer.{Answer}
 use Rattle.answers.specs.Told.{refusalNumber, refused, written}
 use Rattle.answers.specs.Laws.Numbers.{not-zero, refused-never}
-use Rattle.addtext_spec.specs.declared.Outcome.the-variants.{Taken, Refused}
+use Rattle.addtext_spec.specs.declared.Outcome.the-variants.{Skipped, Taken, Refused}
+use Rattle.addtext_spec.specs.declared.Outcome.{Outcome}
 
 -- where the answer is a refusal, what was lent stays
 pub stays : (r : Refusal) (line : ℕ) (a : Answer) (before after : List ℕ) → refused (refusalNumber r) line ≡ a → written a before after ≡ before
@@ -102,26 +105,27 @@ line-sound table store (entry word tag phones) t s h =
     (λ e k. rw e (line-added table store word tag phones t s (h .0) (h .1) k .sound))
     (λ r e. rw e s)
 
--- what a text that is taken whole leaves: a sound store, its entries those of the lines added in turn
+-- what a text that is taken whole leaves: a sound store, its entries those of the lines added in turn, its count as it was
 pub record Grown (b c : List ℕ) (es : List Entry) : Type 0 where
   pub sound : Sound c
   pub entries : entries c ≡ addingAll es (entries b)
   pub length : length c ≡ length b
+  pub count : count c ≡ count b
 
 -- behind an entry line that was taken
 grown-entry : (b c d : List ℕ) (e : Entry) (es : List Entry) → Added b c e → Grown c d es → Grown b d (e ∷ es)
 unfolding addingAll
-grown-entry b c d e es a g = record { sound = g .sound; entries = g .entries ∙ ap (addingAll es) (a .entries); length = g .length ∙ a .length }
+grown-entry b c d e es a g = record { sound = g .sound; entries = g .entries ∙ ap (addingAll es) (a .entries); length = g .length ∙ a .length; count = g .count ∙ count-same b c (a .head) }
 
 -- a line, and the lines behind it
-abbrev past : List ℕ → List ℕ → ℕ → ℕ → List (List ℕ) → Line → Filled
+abbrev pub past : List ℕ → List ℕ → ℕ → ℕ → List (List ℕ) → Line → Filled
 past table store n k ls l = onward n k (behindLine table store l) (λ (m : ℕ). filled table (behindLine table store l) (n + 1) m ls) (outcome table store l)
 
 module _ (table : List ℕ) (t : isPhoneTable table ≡ true) where
   pub all-added : (store : List ℕ) (n k : ℕ) (ls : List (List ℕ)) → Sound store → every ascii ls ≡ true → filled table store n k ls .answer .refusal ≡ 0
       → Grown store (filled table store n k ls .store) (lineEntries ls)
   unfolding filled lineEntries every addingAll onward behindLine outcome entriesOf Low onOutcome
-  all-added store n k [] s a h = record { sound = s; entries = refl; length = refl }
+  all-added store n k [] s a h = record { sound = s; entries = refl; length = refl; count = refl }
   all-added store n k (l ∷ ls) s a h =
       let b = both-true (ascii l) (every ascii ls) a in
       behind (readLine l) (low-line l (b .0)) (λ c m z. all-added c (n + 1) m ls z (b .1)) h
@@ -134,3 +138,42 @@ module _ (table : List ℕ) (t : isPhoneTable table ≡ true) where
           judged-as table store word tag phones
           (λ e f. let y = line-added table store word tag phones t s (w .0) (w .1) f in rw e (grown-entry store (added store (lineEntry word tag phones)) (filled table (added store (lineEntry word tag phones)) (n + 1) (k + 1) ls .store) (lineEntry word tag phones) (lineEntries ls) y (ih (added store (lineEntry word tag phones)) (k + 1) (y .sound) (rw e at h))))
           (λ r e. refused-never r (rw e at h))
+
+-- behind any lines, also where one stopped them: a sound store, as long as it was
+record Whole (b c : List ℕ) : Type 0 where
+  sound : Sound c
+  length : length c ≡ length b
+
+line-whole : (table store : List ℕ) (l : Line) → isPhoneTable table ≡ true → Sound store → Low l → Whole store (behindLine table store l)
+unfolding behindLine Low onOutcome
+line-whole table store skipped t s h = record { sound = s; length = refl }
+line-whole table store faulty t s h = record { sound = s; length = refl }
+line-whole table store (entry word tag phones) t s h =
+    judged-as table store word tag phones
+    (λ e k. let y = line-added table store word tag phones t s (h .0) (h .1) k in rw e (record { sound = y .sound; length = y .length }))
+    (λ r e. rw e (record { sound = s; length = refl }))
+
+filled-whole : (table store : List ℕ) (n k : ℕ) (ls : List (List ℕ)) → isPhoneTable table ≡ true → Sound store → every ascii ls ≡ true → Whole store (filled table store n k ls .store)
+unfolding filled every onward
+filled-whole table store n k [] t s a = record { sound = s; length = refl }
+filled-whole table store n k (l ∷ ls) t s a =
+    let b = both-true (ascii l) (every ascii ls) a in
+    let w = line-whole table store (readLine l) t s (low-line l (b .0)) in
+    go (behindLine table store (readLine l)) w (λ m. filled-whole table (behindLine table store (readLine l)) (n + 1) m ls t (w .sound) (b .1)) (outcome table store (readLine l))
+  where
+    go : (d : List ℕ) → Whole store d → ((m : ℕ) → Whole d (filled table d (n + 1) m ls .store)) → (o : Outcome) → Whole store (onward n k d (λ (m : ℕ). filled table d (n + 1) m ls) o .store)
+    go d w ih Skipped = record { sound = ih k .sound; length = ih k .length ∙ w .length }
+    go d w ih Taken = record { sound = ih (k + 1) .sound; length = ih (k + 1) .length ∙ w .length }
+    go d w ih (Refused r) = w
+
+-- what a stop leaves in the spare: as many bytes as the store, and the largest count
+pub record Stopped (store spare : List ℕ) : Type 0 where
+  pub length : length spare ≡ length store
+  pub count : count spare ≡ largest
+
+pub stop-law : (table store : List ℕ) (n k : ℕ) (ls : List (List ℕ)) → isPhoneTable table ≡ true → Sound store → every ascii ls ≡ true
+    → Stopped store (withCount (filled table store n k ls .store) largest)
+stop-law table store n k ls t s a =
+    let w = filled-whole table store n k ls t s a in
+    let c = filled table store n k ls .store in
+    record { length = counted-length c largest ∙ w .length; count = counted-count c largest (w .sound) (omega arith) }

@@ -1,4 +1,4 @@
--- 01, What a call gives back, and 02, S-5 and S-12: the number of each refusal, and every case of every answer as numbers.
+-- 01, What a call gives back, and 02, S-2, S-5 and S-12: the number of each refusal, and every case of every answer as numbers.
 -- Assumes nothing.
 use Prim.Native.Nat.{ℕ}
 use mathlib.Core.Bool.{false, cond}
@@ -8,7 +8,7 @@ use lib.IntN.{ℤ, pos}
 use lib.Ieee.{Float, fin}
 use Rattle.answers.specs.declared.Answer.{Answer}
 use Rattle.answers.specs.declared.Refusal.{Refusal}
-use Rattle.answers.specs.declared.Refusal.the-variants.{Section, Unsound, Text, Line, UnknownPhone, Damaged, Phones, Full, Short, Version, Records, Range}
+use Rattle.answers.specs.declared.Refusal.the-variants.{Section, Unsound, Text, Line, UnknownPhone, Damaged, Phones, Full, Short, Count, Version, Records, Range}
 use Rattle.answers.specs.declared.Source.{Source}
 use Rattle.answers.specs.declared.Source.the-variants.{Runtime, Addenda, Compiled}
 use Rattle.answers.specs.declared.Verdict.{Verdict}
@@ -23,6 +23,8 @@ use Rattle.answers.specs.declared.Done.{Done}
 use Rattle.answers.specs.declared.Done.the-variants.{Refused as notDone, Accepted as done}
 use Rattle.answers.specs.declared.Lines.{Lines}
 use Rattle.answers.specs.declared.Lines.the-variants.{Refused as notTaken, Taken}
+use Rattle.answers.specs.declared.Previewed.{Previewed}
+use Rattle.answers.specs.declared.Previewed.the-variants.{Refused as notPreviewed, Taken as previewed}
 use Rattle.answers.specs.declared.Said.{Said}
 use Rattle.answers.specs.declared.Said.the-variants.{Refused as notSaid, Accepted as said}
 use Rattle.answers.specs.declared.Joined.{Joined}
@@ -42,6 +44,7 @@ refusalNumber Damaged = 6
 refusalNumber Phones = 7
 refusalNumber Full = 8
 refusalNumber Short = 9
+refusalNumber Count = 12
 refusalNumber Version = 15
 refusalNumber Records = 16
 refusalNumber Range = 17
@@ -94,6 +97,11 @@ toldDone done = accepted 0 0
 abbrev pub toldLines : Lines → Answer
 toldLines (notTaken r line) = refused (refusalNumber r) line
 toldLines (Taken n) = accepted 0 n
+
+-- 02, S-2: the lines taken, the slots newly used, the lines that replaced an entry
+abbrev pub toldPreviewed : Previewed → Answer
+toldPreviewed (notPreviewed r line) = refused (refusalNumber r) line
+toldPreviewed (previewed n newly replaced) = acceptedWith 0 n newly replaced
 
 abbrev pub toldSaid : Said → Answer
 toldSaid (notSaid r) = refused (refusalNumber r) 0

@@ -1,9 +1,9 @@
 // What a call gives back (01, What a call gives back): why it was refused, or its answer; and the
 // one form of numbers in which every answer leaves the library.
 ghost use mathlib.Core.Path.{_≡_};
-ghost use Rattle.answers.specs.Told.{refusalNumber, sourceNumber, refused as refusedBy, accepted as acceptedAs, acceptedWith, toldVerdict, toldLooked, toldPredicted, toldMarked, toldDone, toldLines, toldSaid, toldJoined, noSettings, toldShown};
+ghost use Rattle.answers.specs.Told.{refusalNumber, sourceNumber, refused as refusedBy, accepted as acceptedAs, acceptedWith, toldVerdict, toldLooked, toldPredicted, toldMarked, toldDone, toldLines, toldPreviewed, toldSaid, toldJoined, noSettings, toldShown};
 
-// Why a call was refused: 01's numbers 1 to 9 in this order, then 02's 15, 16 and 17. docs/FORMATS.md has their ranks.
+// Why a call was refused: 01's numbers 1 to 9 in this order, then 02's 12, 15, 16 and 17. docs/FORMATS.md has their ranks.
 pub enum Refusal {
     Section,
     Unsound,
@@ -14,6 +14,7 @@ pub enum Refusal {
     Phones,
     Full,
     Short,
+    Count,
     Version,
     Records,
     Range,
@@ -52,7 +53,7 @@ pub enum Marked {
     Marks(usize),
 }
 
-// new store, add entry, new sheet and write setting
+// new store, add entry, accept entries, new sheet and write setting
 pub enum Done {
     Refused(Refusal),
     Accepted,
@@ -62,6 +63,13 @@ pub enum Done {
 pub enum Lines {
     Refused(Refusal, usize),
     Taken(usize),
+}
+
+// preview entries (02, S-2): the line of a refusal, 0 for the text as a whole, or how many entry lines were taken, how many slots
+// are newly used, and how many lines replaced an entry
+pub enum Previewed {
+    Refused(Refusal, usize),
+    Taken(usize, usize, usize),
 }
 
 // say word: the place just after the last "#", 0 where the letters weren't read (02, S-5)
@@ -97,8 +105,8 @@ pub struct Settings {
 }
 
 // An answer as numbers, in the form that C sees: `refusal` is 0 where the call was accepted, `kind`
-// a source or a yes, `value` the line of a refusal or a count, `second` the place where the letters stopped; the last waits
-// for document 02.
+// a source or a yes, `value` the line of a refusal or a count, `second` the place where the letters stopped or the slots newly
+// used, `third` the lines that replaced an entry.
 #[repr(C)]
 pub struct Answer {
     pub refusal: u32,
@@ -121,6 +129,7 @@ fn refusal_number(r: Refusal) -> u32
         Refusal::Phones => 7,
         Refusal::Full => 8,
         Refusal::Short => 9,
+        Refusal::Count => 12,
         Refusal::Version => 15,
         Refusal::Records => 16,
         Refusal::Range => 17,
@@ -220,6 +229,15 @@ pub fn told_lines(a: Lines) -> Answer
     match a {
         Lines::Refused(r, line) => refused(r, line),
         Lines::Taken(n) => accepted(0, n),
+    }
+}
+
+pub fn told_previewed(a: Previewed) -> Answer
+    ensures { λ r. ⌜ r ≡ toldPreviewed a ⌝ }
+{
+    match a {
+        Previewed::Refused(r, line) => refused(r, line),
+        Previewed::Taken(n, newly, replaced) => accepted_with(0, n, newly, replaced),
     }
 }
 

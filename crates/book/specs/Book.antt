@@ -1,4 +1,4 @@
--- 01, Store and sheet: the plain book beside a list of calls, fed only the calls and whether each was refused.
+-- 01, Store and sheet, and 02, S-2: the plain book beside a list of calls, fed only the calls and whether each was refused.
 -- Assumes nothing.
 use Prim.Native.Nat.{ℕ}
 use mathlib.Core.Bool.{Bool}
@@ -11,15 +11,16 @@ use Rattle.lines.specs.Lines.{lines}
 use Rattle.addtext_spec.specs.Filling.{lineEntries, addingAll}
 use Rattle.utterance_spec.specs.Tree.{Word}
 use Rattle.pipeline_spec.specs.Pronounced.{Sections, Spoken, barred, phones, pronounced, said}
-use Rattle.book.specs.Calls.{Call, makeSheet, addsEntry, addsText, saysWord, Made, State, step, isRefused}
+use Rattle.book.specs.Calls.{Call, makeSheet, addsEntry, addsText, previewsText, acceptsText, saysWord, Made, State, step, isRefused}
 
--- entries and words, at first none
+-- entries and words, at first none; and the entries of the latest accepted first step, none if there was none
 pub record Book : Type 0 where
   pub entries : List Entry
   pub words : List Word
+  pub previewed : List Entry
 
 unfoldable pub empty : Book
-empty = record { entries = []; words = [] }
+empty = record { entries = []; words = []; previewed = [] }
 
 -- a call, and whether it was refused
 pub record Heard : Type 0 where
@@ -34,10 +35,13 @@ module _ (c : Sections) where
 
   -- what an accepted call changes
   unfoldable pub accepts : Call → Book → Book
-  accepts makeSheet k = record { entries = k .entries; words = [] }
-  accepts (addsEntry word tag cells) k = record { entries = adding (newEntry word tag cells) (k .entries); words = k .words }
-  accepts (addsText text) k = record { entries = addingAll (lineEntries (lines text)) (k .entries); words = k .words }
-  accepts (saysWord word tag) k = record { entries = k .entries; words = k .words ++ onSpoken word (pronounced c (k .entries) word tag) }
+  accepts makeSheet k = record { entries = k .entries; words = []; previewed = k .previewed }
+  accepts (addsEntry word tag cells) k = record { entries = adding (newEntry word tag cells) (k .entries); words = k .words; previewed = k .previewed }
+  accepts (addsText text) k = record { entries = addingAll (lineEntries (lines text)) (k .entries); words = k .words; previewed = k .previewed }
+  accepts (previewsText text) k = record { entries = k .entries; words = k .words; previewed = lineEntries (lines text) }
+  accepts acceptsText k = record { entries = addingAll (k .previewed) (k .entries); words = k .words; previewed = k .previewed }
+  accepts (saysWord word tag) k =
+      record { entries = k .entries; words = k .words ++ onSpoken word (pronounced c (k .entries) word tag); previewed = k .previewed }
 
   -- a refused call changes nothing
   unfoldable pub keeps : List Heard → Book → Book
@@ -47,4 +51,4 @@ module _ (c : Sections) where
   -- what the book hears of a list of calls
   unfoldable pub hears : List Made → State → List Heard
   hears [] s = []
-  hears (m ∷ ms) s = record { call = m .call; refused = isRefused c (m .call) (m .spare) s } ∷ hears ms (step c (m .call) (m .spare) s)
+  hears (m ∷ ms) s = record { call = m .call; refused = isRefused c (m .call) (m .other) s } ∷ hears ms (step c (m .call) (m .other) s)

@@ -1,31 +1,39 @@
 -- 01, demand 3: one claim about every list of calls. The store that a list leaves holds the entries, and the sheet tells the words, of the book of what was accepted.
--- Each call keeps store and sheet sound and in step with the book, and a list of calls is its calls in turn.
+-- Each call keeps store and sheet sound and in step with the book, and the spare with what it may be accepted as; a list of calls is its calls in turn.
 -- Assumes nothing.
-use Prim.Native.Nat.{ℕ, _+_}
+use Prim.Native.Nat.{ℕ, _+_, _≤_, _<_}
 use native.Mathlib.Omega.{arith}
 use mathlib.Core.Path.{_≡_, refl, sym, ap, _∙_, subst}
-use mathlib.Core.Bool.{true, _&&_}
+use mathlib.Core.Bool.{true, false, _&&_}
+use mathlib.Core.Logic.{_≢_}
 use mathlib.Core.List.{List, [], _∷_, _++_, append-nil}
+use mathlib.Core.Option.{Option, none, some}
 use lib.Dec.{eqb}
 use lib.ListN.{length}
-use borrow.Author.Tests.{eqb-true, leb-false}
+use borrow.Author.Tests.{eqb-true, eqb-false, leb-false}
 use Rattle.texts.specs.Choice.{if_then_else_, both-true, cases}
 use Rattle.texts.specs.Text.{isWord}
 use Rattle.slots_spec.specs.Slot.{Entry}
-use Rattle.store_spec.specs.Store.{entries, isStoreLength, isSound as isStore}
+use Rattle.store_spec.specs.Store.{entries, count, withCount, largest, isStoreLength, isSound as isStore}
 use Rattle.new_store.specs.NewStore.{newStore, newBytes as newStoreBytes}
 use Rattle.store_spec.specs.Sound.{Sound as SoundStore}
 use Rattle.store_spec.specs.Adding.{adding}
-use Rattle.new_store.specs.Fresh.{fresh as freshStore, fresh-sound, fresh-entries}
+use Rattle.store_spec.specs.Laws.Counts.{counted, counted-length, counted-entries, counted-count}
+use Rattle.new_store.specs.Fresh.{fresh as freshStore, fresh-sound, fresh-entries, fresh-count}
 use Rattle.lts_spec.specs.Letters.{isTrees}
 use Rattle.compiled_spec.specs.Lexicon.{isLexicon}
 use Rattle.lexicon_spec.specs.Adding.{newEntry}
 use Rattle.add_entry.specs.AddEntry.{addEntry, storeAfter}
 use Rattle.add_entry.specs.Accepted.{add-law, accepted-is}
 use Rattle.lines.specs.Lines.{lines}
-use Rattle.addtext_spec.specs.Filling.{lineEntries, addingAll}
-use Rattle.add_entries.specs.AddEntries.{addEntries, storeAfter as storeAfterText}
-use Rattle.add_entries.specs.Accepted.{text-law}
+use Rattle.addtext_spec.specs.Filling.{textFilled, lineEntries, addingAll}
+use Rattle.addtext_spec.specs.Grown.{Grown}
+use Rattle.add_entries.specs.AddEntries.{addEntries, storeAfter as storeAfterText, spareAfter as spareAfterText}
+use Rattle.add_entries.specs.Ends.{Taken, Ends as TextEnds, whole as textWhole, stopped as textStopped, unread as textUnread, ends as textEnds}
+use Rattle.preview_entries.specs.PreviewEntries.{previewEntries, spareAfter as sparePreviewed}
+use Rattle.preview_entries.specs.Ends.{Ends, whole, stopped, unread, ends}
+use Rattle.accept_entries.specs.AcceptEntries.{acceptEntries, storeAfter as storeAccepted}
+use Rattle.accept_entries.specs.Accepted.{accept-law}
 use Rattle.utterance_spec.specs.Tree.{Word}
 use Rattle.utterance_spec.specs.Sheet.{used, items, reading, isSheetLength, isSound as isSheet}
 use Rattle.new_sheet.specs.NewSheet.{newSheet}
@@ -37,11 +45,12 @@ use Rattle.answers.specs.declared.Answer.{Answer}
 use Rattle.pipeline_spec.specs.Pronounced.{Sections, Spoken, barred, phones, pronounced, said}
 use Rattle.pipeline_spec.specs.Placing.{isCrowded, onSpoken as onSpokenAnswer, withSpoken}
 use Rattle.say_word.specs.SayWord.{sayWord, sheetAfter}
-use Rattle.book.specs.Calls.{Call, makeSheet, addsEntry, addsText, saysWord, Made, State, answer, step, isRefused, leaves, fresh}
+use Rattle.book.specs.Calls.{Call, makeSheet, addsEntry, addsText, previewsText, acceptsText, saysWord, Made, State, found, carried, answer, step, isRefused, leaves, fresh}
 use Rattle.book.specs.Book.{Book, empty, onSpoken, accepts, keeps, hears}
 use Rattle.pipeline_spec.specs.Laws.Sources.{entries-fit}
 use Rattle.pipeline_spec.specs.Laws.Fits.{pronounced-fits}
 use Rattle.book.specs.Laws.MayStand.{phones-said}
+use Rattle.book.specs.Laws.Counts.{Stand, begin, raised, shown, halted}
 use Rattle.book.specs.WellCut.{WellCut, said-cut}
 use Rattle.book.specs.Claim.{Each, Holds, Tells, holds, tells}
 
@@ -49,9 +58,11 @@ each-last : (P : Word → Type 0) (ws : List Word) (w : Word) → Each P ws → 
 each-last P [] w h k = (k, tt)
 each-last P (v ∷ ws) w h k = (h .0, each-last P ws w (h .1) k)
 
--- store and sheet are sound and in step with the book
+-- store and sheet are sound and in step with the book; the spare is as long as the store, and where their counts are equal it has what the second step accepts
 pub record Agrees (s : State) (k : Book) : Type 0 where
   pub store : SoundStore (s .store)
+  pub alike : length (s .spare) ≡ length (s .store)
+  pub stand : Stand (count (s .store)) (count (s .spare)) (entries (s .spare) ≡ addingAll (k .previewed) (k .entries))
   pub entries : entries (s .store) ≡ k .entries
   pub sheet : Sound (s .sheet)
   pub words : reading (s .sheet) ≡ k .words
@@ -74,81 +85,174 @@ passed c store sheet word tag h =
     (λ t₂. absurd (omega (arith, (rw (t₁, t₂) at h)))))
     (λ t₁. absurd (omega (arith, (rw t₁ at h))))
 
+-- a count that may rise, and is at most the largest
+below : (n : ℕ) → n ≤ largest → eqb n largest ≡ false → (n ≢ largest) × (n < largest)
+below n b e = let h = eqb-false n largest e in (h, omega (arith, b, h))
+
 module _ (c : Sections) (s : State) (k : Book) (a : Agrees s k) where
   -- what a call must leave
-  abbrev After : Call → List ℕ → Type 0
-  After call spare = Agrees (step c call spare s) (if isRefused c call spare s then k else accepts c call k)
+  abbrev After : Call → Option (List ℕ) → Type 0
+  After call other = Agrees (step c call other s) (if isRefused c call other s then k else accepts c call k)
 
-  makes : (spare : List ℕ) → After makeSheet spare
+  makes : (other : Option (List ℕ)) → After makeSheet other
   unfolding answer step accepts newSheet
-  makes spare =
+  makes other =
       let l = a .sheet .size in
-      rw l (record { store = a .store; entries = a .entries; sheet = new-sound (s .sheet) l; words = new-reads (s .sheet) l; cut = tt })
+      rw l (record { store = a .store; alike = a .alike; stand = a .stand; entries = a .entries; sheet = new-sound (s .sheet) l; words = new-reads (s .sheet) l; cut = tt })
 
-  adds : (word tag cells spare : List ℕ) → After (addsEntry word tag cells) spare
+  adds : (word tag cells : List ℕ) (other : Option (List ℕ)) → After (addsEntry word tag cells) other
   unfolding answer step accepts
-  adds word tag cells spare =
+  adds word tag cells other =
       cases (eqb (addEntry (c .lexPhones) (s .store) word tag cells .refusal) 0)
       (λ e. let h = add-law (c .lexPhones) (s .store) word tag cells (accepted-is (c .lexPhones) (s .store) word tag cells (eqb-true (addEntry (c .lexPhones) (s .store) word tag cells .refusal) 0 e)) in
-      rw e (record { store = h .sound; entries = h .entries ∙ ap (λ (es : List Entry). adding (newEntry word tag cells) es) (a .entries); sheet = a .sheet; words = a .words; cut = a .cut }))
+      let n = below (count (s .store)) (a .stand .bound) (h .rises) in
+      rw e (record {
+        store = h .sound;
+        alike = a .alike ∙ sym (h .length);
+        stand = rw (h .count (n .1)) (raised (count (s .store)) (count (s .spare)) (a .stand) (n .0));
+        entries = h .entries ∙ ap (λ (es : List Entry). adding (newEntry word tag cells) es) (a .entries);
+        sheet = a .sheet;
+        words = a .words;
+        cut = a .cut;
+      }))
       (λ e. let z : storeAfter (c .lexPhones) (s .store) word tag cells ≡ s .store = unfold storeAfter in rw e in
       rw (e, z) a)
 
-  texts : (text spare : List ℕ) → After (addsText text) spare
+  -- a store that was raised by bytes that a text filled, beside the list's own spare or the filled one
+  module _ (text full : List ℕ) (g : Grown (s .store) full (lineEntries (lines text))) (r : eqb (count (s .store)) largest ≡ false) where
+    abbrev more : ℕ
+    more = count (s .store) + 1
+
+    text-entries : entries (withCount full more) ≡ addingAll (lineEntries (lines text)) (k .entries)
+    text-entries = counted-entries full more (g .sound) ∙ g .entries ∙ ap (λ (es : List Entry). addingAll (lineEntries (lines text)) es) (a .entries)
+
+    text-beside : (F : Type 0) (spare : List ℕ) → length spare ≡ length (s .store) → Stand (count (s .store)) (count spare) F
+        → Agrees (record { store = withCount full more; sheet = s .sheet; spare = spare }) (accepts c (addsText text) k)
+    unfolding accepts
+    text-beside F spare l t =
+        let n = below (count (s .store)) (a .stand .bound) r in
+        record {
+          store = counted full more (g .sound);
+          alike = l ∙ sym (counted-length full more ∙ g .length);
+          stand = rw (counted-count full more (g .sound) (omega (arith, n .1))) (raised (count (s .store)) (count spare) t (n .0));
+          entries = text-entries;
+          sheet = a .sheet;
+          words = a .words;
+          cut = a .cut;
+        }
+
+  -- a spare that was filled, by lines that are all taken or up to a stop
+  halts : (spare : List ℕ) → length spare ≡ length (s .store) → count spare ≡ largest → Agrees (record { store = s .store; sheet = s .sheet; spare = spare }) k
+  halts spare l e =
+      record { store = a .store; alike = l; stand = rw e (halted (count (s .store)) (count (s .spare)) (a .stand)); entries = a .entries; sheet = a .sheet; words = a .words; cut = a .cut }
+
+  texts : (text : List ℕ) (other : Option (List ℕ)) → After (addsText text) other
+  unfolding answer step
+  texts text none = go (textEnds (c .lexPhones) (s .store) (s .spare) text)
+    where
+      go : TextEnds (c .lexPhones) (s .store) (s .spare) text → After (addsText text) none
+      go (textWhole e t) =
+          let f = textFilled (c .lexPhones) (s .store) text .store in
+          let g = t .grown in
+          rw (e, t .storeIs, t .spareIs) (text-beside text f g (t .tests .rises) (Unit {0}) f (g .length) (rw (g .count) (shown (count (s .store)) (count (s .spare)) (a .stand) tt)))
+      go (textStopped e z p) = rw (e, z) (halts (spareAfterText (c .lexPhones) (s .store) (s .spare) text) (p .length) (p .count))
+      go (textUnread e z p) = rw (e, z, p) a
+  texts text (some other) = go (textEnds (c .lexPhones) (s .store) other text)
+    where
+      go : TextEnds (c .lexPhones) (s .store) other text → After (addsText text) (some other)
+      go (textWhole e t) = rw (e, t .storeIs) (text-beside text (textFilled (c .lexPhones) (s .store) text .store) (t .grown) (t .tests .rises) (entries (s .spare) ≡ addingAll (k .previewed) (k .entries)) (s .spare) (a .alike) (a .stand))
+      go (textStopped e z p) = rw (e, z) a
+      go (textUnread e z p) = rw (e, z) a
+
+  previews : (text : List ℕ) (other : Option (List ℕ)) → After (previewsText text) other
   unfolding answer step accepts
-  texts text spare =
-      cases (eqb (addEntries (c .lexPhones) (s .store) spare text .refusal) 0)
-      (λ e. let h = text-law (c .lexPhones) (s .store) spare text (eqb-true (addEntries (c .lexPhones) (s .store) spare text .refusal) 0 e) in
-      rw e (record { store = h .sound; entries = h .entries ∙ ap (λ (es : List Entry). addingAll (lineEntries (lines text)) es) (a .entries); sheet = a .sheet; words = a .words; cut = a .cut }))
-      (λ e. let z : storeAfterText (c .lexPhones) (s .store) spare text ≡ s .store = unfold storeAfterText in rw e in
+  previews text other = go (ends (c .lexPhones) (s .store) (s .spare) text)
+    where
+      go : Ends (c .lexPhones) (s .store) (s .spare) text → After (previewsText text) other
+      go (whole e g) =
+          rw e (record {
+            store = a .store;
+            alike = g .length;
+            stand = rw (g .count) (shown (count (s .store)) (count (s .spare)) (a .stand) (g .entries ∙ ap (λ (es : List Entry). addingAll (lineEntries (lines text)) es) (a .entries)));
+            entries = a .entries;
+            sheet = a .sheet;
+            words = a .words;
+            cut = a .cut;
+          })
+      go (stopped e p) = rw e (halts (sparePreviewed (c .lexPhones) (s .store) (s .spare) text) (p .length) (p .count))
+      go (unread e p) = rw (e, p) a
+
+  takes : (other : Option (List ℕ)) → After acceptsText other
+  unfolding answer step accepts
+  takes other =
+      cases (eqb (acceptEntries (s .store) (s .spare) .refusal) 0)
+      (λ e. let t = accept-law (s .store) (s .spare) (eqb-true (acceptEntries (s .store) (s .spare) .refusal) 0 e) in
+      let z : storeAccepted (s .store) (s .spare) ≡ withCount (s .spare) (count (s .spare) + 1) = unfold storeAccepted in rw e in
+      let n = below (count (s .store)) (a .stand .bound) (t .rises) in
+      let m = count (s .spare) + 1 in
+      let q = t .seen in
+      let f : count (withCount (s .spare) m) ≡ count (s .store) + 1 = counted-count (s .spare) m (t .sound) (omega (arith, n .1, q)) ∙ ap (λ (x : ℕ). x + 1) q in
+      rw (e, z) (record {
+        store = counted (s .spare) m (t .sound);
+        alike = sym (counted-length (s .spare) m);
+        stand = rw f (raised (count (s .store)) (count (s .spare)) (a .stand) (n .0));
+        entries = counted-entries (s .spare) m (t .sound) ∙ a .stand .waits q (n .0);
+        sheet = a .sheet;
+        words = a .words;
+        cut = a .cut;
+      }))
+      (λ e. let z : storeAccepted (s .store) (s .spare) ≡ s .store = unfold storeAccepted in rw e in
       rw (e, z) a)
 
   -- a word that was accepted, by what it came to
   heard : (word tag : List ℕ) (p : Spoken) → pronounced c (entries (s .store)) word tag ≡ p → Passed c (s .store) (s .sheet) word tag → onSpokenAnswer (s .sheet) word p .refusal ≡ 0
-      → Agrees (record { store = s .store; sheet = withSpoken (s .sheet) word p }) (record { entries = k .entries; words = k .words ++ onSpoken c word p })
-  heard word tag (barred n) e t h = subst (λ (ws : List Word). Agrees (record { store = s .store; sheet = s .sheet }) (record { entries = k .entries; words = ws })) (sym (append-nil (k .words))) (record { store = a .store; entries = a .entries; sheet = a .sheet; words = a .words; cut = a .cut })
+      → Agrees (record { store = s .store; sheet = withSpoken (s .sheet) word p; spare = s .spare }) (record { entries = k .entries; words = k .words ++ onSpoken c word p; previewed = k .previewed })
+  heard word tag (barred n) e t h = subst (λ (ws : List Word). Agrees (record { store = s .store; sheet = s .sheet; spare = s .spare }) (record { entries = k .entries; words = ws; previewed = k .previewed })) (sym (append-nil (k .words))) (record { store = a .store; alike = a .alike; stand = a .stand; entries = a .entries; sheet = a .sheet; words = a .words; cut = a .cut })
   heard word tag (phones source place ps) e t h =
       cases (isCrowded (s .sheet) (said word ps))
       (λ f. absurd (omega (arith, (rw f at h))))
       (λ f. let p = pronounced-fits c (entries (s .store)) word tag (entries-fit (s .store) (a .store)) (t .lexicon) (t .trees) source place ps e in
       let may = (phones-said word ps (t .text) p) in
       let room = (leb-false (items (s .sheet)) (used (s .sheet) + size (said word ps)) f) in
-      record { store = a .store; entries = a .entries; sheet = append-law (s .sheet) (said word ps) (a .sheet) may room .sound; words = append-reads (s .sheet) (said word ps) (a .sheet) may room ∙ ap (λ (ws : List Word). ws ++ (said word ps ∷ [])) (a .words); cut = each-last WellCut (k .words) (said word ps) (a .cut) (said-cut word ps) })
+      record { store = a .store; alike = a .alike; stand = a .stand; entries = a .entries; sheet = append-law (s .sheet) (said word ps) (a .sheet) may room .sound; words = append-reads (s .sheet) (said word ps) (a .sheet) may room ∙ ap (λ (ws : List Word). ws ++ (said word ps ∷ [])) (a .words); cut = each-last WellCut (k .words) (said word ps) (a .cut) (said-cut word ps) })
 
-  says : (word tag spare : List ℕ) → After (saysWord word tag) spare
+  says : (word tag : List ℕ) (other : Option (List ℕ)) → After (saysWord word tag) other
   unfolding answer step accepts
-  says word tag spare =
+  says word tag other =
       cases (eqb (sayWord c (s .store) (s .sheet) word tag .refusal) 0)
       (λ e. let r = eqb-true (sayWord c (s .store) (s .sheet) word tag .refusal) 0 e in
       let t = passed c (s .store) (s .sheet) word tag r in
       let z : sheetAfter c (s .store) (s .sheet) word tag ≡ withSpoken (s .sheet) word (pronounced c (entries (s .store)) word tag) = unfold sheetAfter in rw e in
       let y : pronounced c (entries (s .store)) word tag ≡ pronounced c (k .entries) word tag = ap (λ (es : List Entry). pronounced c es word tag) (a .entries) in
-      let g : Agrees (record { store = s .store; sheet = sheetAfter c (s .store) (s .sheet) word tag }) (accepts c (saysWord word tag) k) =
+      let g : Agrees (record { store = s .store; sheet = sheetAfter c (s .store) (s .sheet) word tag; spare = s .spare }) (accepts c (saysWord word tag) k) =
       rw (z, sym y) (heard word tag (pronounced c (entries (s .store)) word tag) refl t (sym (ap (λ (x : Answer). x .refusal) (t .answer)) ∙ r)) in
       rw e g)
       (λ e. let z : sheetAfter c (s .store) (s .sheet) word tag ≡ s .sheet = unfold sheetAfter in rw e in
       rw (e, z) a)
 
-  each-call : (call : Call) (spare : List ℕ) → After call spare
-  each-call makeSheet spare = makes spare
-  each-call (addsEntry word tag cells) spare = adds word tag cells spare
-  each-call (addsText text) spare = texts text spare
-  each-call (saysWord word tag) spare = says word tag spare
+  each-call : (call : Call) (other : Option (List ℕ)) → After call other
+  each-call makeSheet other = makes other
+  each-call (addsEntry word tag cells) other = adds word tag cells other
+  each-call (addsText text) other = texts text other
+  each-call (previewsText text) other = previews text other
+  each-call acceptsText other = takes other
+  each-call (saysWord word tag) other = says word tag other
 
 -- a list of calls
 in-turn : (c : Sections) (ms : List Made) (s : State) (k : Book) → Agrees s k → Agrees (leaves c ms s) (keeps c (hears c ms s) k)
 unfolding leaves keeps hears
 in-turn c [] s k a = a
 in-turn c (m ∷ ms) s k a =
-    in-turn c ms (step c (m .call) (m .spare) s) (if isRefused c (m .call) (m .spare) s then k else accepts c (m .call) k) (each-call c s k a (m .call) (m .spare))
+    in-turn c ms (step c (m .call) (m .other) s) (if isRefused c (m .call) (m .other) s then k else accepts c (m .call) k) (each-call c s k a (m .call) (m .other))
 
 begins : (store sheet : List ℕ) → isStoreLength (length store) ≡ true → isSheetLength (length sheet) ≡ true → Agrees (fresh store sheet) empty
 unfolding fresh empty
 begins store sheet l h =
     let z : newStoreBytes store ≡ freshStore store l = unfold newStoreBytes newStore in rw l in
-    rw z (record { store = fresh-sound store l; entries = fresh-entries store l; sheet = new-sound sheet h; words = new-reads sheet h; cut = tt })
+    rw z (record { store = fresh-sound store l; alike = refl; stand = rw (fresh-count store l) (begin (unfold addingAll in fresh-entries store l)); entries = fresh-entries store l; sheet = new-sound sheet h; words = new-reads sheet h; cut = tt })
 
--- for every list of calls, every set of sections, and every store and sheet as new store and new sheet leave them, their other bytes arbitrary
+-- for every list of calls, every set of sections, and every store and sheet as new store and new sheet leave them, their other bytes
+-- arbitrary, with a spare equal to the store
 pub every-list : (c : Sections) (store sheet : List ℕ) → isStoreLength (length store) ≡ true → isSheetLength (length sheet) ≡ true → (calls : List Made)
     → Holds (leaves c calls (fresh store sheet) .store) (keeps c (hears c calls (fresh store sheet)) empty .entries)
     × Tells (leaves c calls (fresh store sheet) .sheet) (keeps c (hears c calls (fresh store sheet)) empty .words)

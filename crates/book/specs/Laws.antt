@@ -1,2 +1,3 @@
 -- Laws that only proofs use.
 pub mod MayStand
+pub mod Counts

@@ -95,6 +95,61 @@ pub fn run_add_entries(line: &[u8], regs: &[u8], room: &mut [u8], out: &mut [u8]
     add_entries_on(line, regs, room, given, &mut out[..n], &mut spare[..m])
 }
 
+// preview_entries with its arguments read and its spare loaded
+fn preview_entries_on(
+    line: &[u8],
+    regs: &[u8],
+    room: &mut [u8],
+    given: Given,
+    spare: &mut [u8],
+) -> bool {
+    let a = preview_entries::preview_entries(
+        caseline::argument(room, given, 0),
+        caseline::argument(room, given, 1),
+        spare,
+        caseline::argument(room, given, 3),
+    );
+    if !caseline::agrees(answers::told_previewed(a), line, 6) {
+        return false;
+    }
+    caseline::as_told(spare, line, 9, regs, room, given, 2)
+}
+
+// preview_entries PHONES STORE SPARE TEXT -> REFUSAL KIND VALUE SPARE
+pub fn run_preview_entries(line: &[u8], regs: &[u8], room: &mut [u8], out: &mut [u8]) -> bool {
+    let given = caseline::arguments(line, 4, regs, room);
+    if !given.ok {
+        return false;
+    }
+    let n = caseline::load(out, caseline::argument(room, given, 2));
+    preview_entries_on(line, regs, room, given, &mut out[..n])
+}
+
+// accept_entries with its arguments read and its store loaded
+fn accept_entries_on(
+    line: &[u8],
+    regs: &[u8],
+    room: &mut [u8],
+    given: Given,
+    store: &mut [u8],
+) -> bool {
+    let a = accept_entries::accept_entries(store, caseline::argument(room, given, 1));
+    if !caseline::agrees(answers::told_done(a), line, 4) {
+        return false;
+    }
+    caseline::as_told(store, line, 7, regs, room, given, 0)
+}
+
+// accept_entries STORE SPARE -> REFUSAL KIND VALUE STORE
+pub fn run_accept_entries(line: &[u8], regs: &[u8], room: &mut [u8], out: &mut [u8]) -> bool {
+    let given = caseline::arguments(line, 2, regs, room);
+    if !given.ok {
+        return false;
+    }
+    let n = caseline::load(out, caseline::argument(room, given, 0));
+    accept_entries_on(line, regs, room, given, &mut out[..n])
+}
+
 // lookup with its arguments read and its output loaded
 fn lookup_on(line: &[u8], regs: &[u8], room: &mut [u8], given: Given, out: &mut [u8]) -> bool {
     let a = lookup::lookup(

@@ -25,6 +25,12 @@ pub fn call_number(name: &[u8]) -> u8 {
     if texts::same(name, b"fill") {
         return 7;
     }
+    if texts::same(name, b"preview_entries") {
+        return 8;
+    }
+    if texts::same(name, b"accept_entries") {
+        return 9;
+    }
     0
 }
 
@@ -38,6 +44,8 @@ pub fn run(line: &[u8], regs: &[u8], room: &mut [u8], out: &mut [u8]) -> bool {
         5 => entries::run_add_entries(line, regs, room, out),
         6 => many::run_damage(line, regs, room, out),
         7 => many::run_fill(line, regs, room, out),
+        8 => entries::run_preview_entries(line, regs, room, out),
+        9 => entries::run_accept_entries(line, regs, room, out),
         _ => false,
     }
 }

@@ -28,6 +28,17 @@ fn flipped(room: &[u8], given: Given, store: &mut [u8], k: usize) -> u32
     answers::told_looked(a).refusal
 }
 
+// The refusal of a store whose byte k was flipped: 2 for the first n, but for bytes 8 to 15, the count, which may be anything.
+fn wanted(k: usize, n: usize) -> u32 {
+    if n <= k {
+        return 0;
+    }
+    match k {
+        8..=15 => 0,
+        _ => 2,
+    }
+}
+
 // damage with its arguments read and its store loaded
 fn damage_on(line: &[u8], room: &[u8], given: Given, store: &mut [u8]) -> bool {
     let n = caseline::number(caseline::token(line, 8)) as usize;
@@ -36,8 +47,7 @@ fn damage_on(line: &[u8], room: &[u8], given: Given, store: &mut [u8]) -> bool {
     }
     let mut k = 0;
     while k < store.len() {
-        let wanted = if k < n { 2 } else { 0 };
-        if flipped(room, given, store, k) != wanted {
+        if flipped(room, given, store, k) != wanted(k, n) {
             return false;
         }
         k += 1;

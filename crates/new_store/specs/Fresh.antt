@@ -1,4 +1,4 @@
--- A store as new store leaves it is sound and has no entries.
+-- A store as new store leaves it is sound, has no entries, and its count is 0.
 -- Assumes nothing.
 use Prim.Native.Nat.{ℕ, _+_, _*_, _%_, _≤_, _<_}
 use native.Mathlib.Nat.{zero-add}
@@ -12,16 +12,14 @@ use borrow.Author.Tests.{leb-true}
 use Rattle.texts.specs.Choice.{both-true}
 use Rattle.texts.specs.Lists.{every}
 use Rattle.texts.specs.Text.{is}
-use Rattle.records.specs.Fields.{u16At}
+use Rattle.records.specs.Fields.{u16At, u32At, u64At}
 use Rattle.records.specs.Records.{recordAt, putRecord, putRecord-same, length-putRecord, u16-of}
 use Rattle.records.specs.Chain.{endOf}
-use Rattle.store_spec.specs.Store.{next, entries, isStoreLength, keysDiffer}
+use Rattle.store_spec.specs.Store.{next, count, entries, isStoreLength, keysDiffer, isRest}
 use Rattle.new_store.specs.NewStore.{newHead}
 use Rattle.store_spec.specs.Sound.{Sound, entries-are}
-
-long : (n : ℕ) → isStoreLength n ≡ true → 512 ≤ n
-unfolding isStoreLength
-long n h = leb-true 512 n (both-true (leb 512 n) (leb n 65536) (both-true (leb 512 n && leb n 65536) (eqb (n % 512) 0) h .0) .0)
+use Rattle.store_spec.specs.Result.{long}
+use Rattle.store_spec.specs.Laws.Counts.{count-of}
 
 module _ (b : List ℕ) (size : isStoreLength (length b) ≡ true) where
   abbrev pub fresh : List ℕ
@@ -41,8 +39,8 @@ module _ (b : List ℕ) (size : isStoreLength (length b) ≡ true) where
   field : (o : ℕ) → o + 1 < 512 → u16At fresh o ≡ u16At newHead o
   field o h = ap (λ (k : ℕ). u16At fresh k) (sym (zero-add o)) ∙ sym (u16-of 512 fresh 0 o h) ∙ ap (λ (r : List ℕ). u16At r o) head
 
-  zeros : every (is 0) (drop 6 newHead) ≡ true
-  unfolding newHead every is
+  zeros : isRest (drop 6 newHead) ≡ true
+  unfolding newHead isRest every is
   zeros = refl
 
   first-zero : u16At newHead 0 ≡ 0
@@ -79,3 +77,10 @@ module _ (b : List ℕ) (size : isStoreLength (length b) ≡ true) where
   pub fresh-entries : entries fresh ≡ []
   unfolding fresh-sound
   fresh-entries = entries-are fresh fresh-sound
+
+  no-count : u64At (drop 6 newHead) 2 ≡ 0
+  unfolding newHead u64At u32At u16At
+  no-count = refl
+
+  pub fresh-count : count fresh ≡ 0
+  fresh-count = count-of fresh ∙ ap (λ (r : List ℕ). u64At (drop 6 r) 2) head ∙ no-count

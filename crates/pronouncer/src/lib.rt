@@ -13,6 +13,8 @@ ghost use Rattle.check_lexicon.specs.CheckLexicon.{checkLexicon};
 ghost use Rattle.lookup.specs.Lookup.{lookup, lookedUp};
 ghost use Rattle.add_entry.specs.AddEntry.{addEntry, storeAfter};
 ghost use Rattle.add_entries.specs.AddEntries.{addEntries, storeAfter as storeBehind, spareAfter as spareBehind};
+ghost use Rattle.preview_entries.specs.PreviewEntries.{previewEntries, spareAfter as sparePreviewed};
+ghost use Rattle.accept_entries.specs.AcceptEntries.{acceptEntries, storeAfter as storeAccepted};
 ghost use Rattle.new_sheet.specs.NewSheet.{newSheet, newBytes as newSheetBytes};
 ghost use Rattle.phonestring.specs.PhoneString.{phoneString, stringAfter};
 ghost use Rattle.pipeline_spec.specs.Pronounced.{tables};
@@ -118,6 +120,29 @@ pub extern "C" fn pronouncer_add_entries(
     ensures { λ _. ⌜ now (spare .exit) ≡ spareBehind (now (table .entry)) (now (store .entry)) (now (spare .entry)) (now (text .entry)) ⌝ }
 {
     answers::told_lines(add_entries::add_entries(table, store, spare, text))
+}
+
+// lex.phones, a store, a spare, a text
+#[no_mangle]
+pub extern "C" fn pronouncer_preview_entries(
+    table: &[u8],
+    store: &[u8],
+    spare: &mut [u8],
+    text: &[u8],
+) -> Answer
+    ensures { λ r. ⌜ r ≡ previewEntries (now (table .entry)) (now (store .entry)) (now (spare .entry)) (now (text .entry)) ⌝ }
+    ensures { λ _. ⌜ now (spare .exit) ≡ sparePreviewed (now (table .entry)) (now (store .entry)) (now (spare .entry)) (now (text .entry)) ⌝ }
+{
+    answers::told_previewed(preview_entries::preview_entries(table, store, spare, text))
+}
+
+// a store, a spare
+#[no_mangle]
+pub extern "C" fn pronouncer_accept_entries(store: &mut [u8], spare: &[u8]) -> Answer
+    ensures { λ r. ⌜ r ≡ acceptEntries (now (store .entry)) (now (spare .entry)) ⌝ }
+    ensures { λ _. ⌜ now (store .exit) ≡ storeAccepted (now (store .entry)) (now (spare .entry)) ⌝ }
+{
+    answers::told_done(accept_entries::accept_entries(store, spare))
 }
 
 // a sheet

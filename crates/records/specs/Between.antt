@@ -1,13 +1,14 @@
 -- 01, Store and sheet: bytes from one place on and before another that are zero, or below 128; and tests of a part of a record, told byte by byte.
 -- Assumes nothing.
-use Prim.Native.Nat.{ℕ, _+_, _-_, _≤_, _<_}
+use Prim.Native.Nat.{ℕ, zero, suc, _+_, _-_, _≤_, _<_}
+use native.Mathlib.Nat.{zero-add}
 use native.Mathlib.Omega.{arith}
-use mathlib.Core.Path.{_≡_, sym, _∙_}
+use mathlib.Core.Path.{_≡_, sym, ap, _∙_}
 use mathlib.Core.Bool.{Bool, true}
-use mathlib.Core.List.{List}
+use mathlib.Core.List.{List, [], _∷_}
 use lib.Dec.{ltb}
 use lib.ListN.{length, getD, take, drop, length-take, length-drop, List·getD-eq-default}
-use lib.Seq.{getD-take, getD-drop}
+use lib.Seq.{take-nil, getD-take, getD-drop}
 use borrow.Author.Tests.{eqb-true, eq-eqb, ltb-true, ltb-false, lt-ltb}
 use Rattle.texts.specs.Choice.{cases}
 use Rattle.texts.specs.Lists.{every, every-at, every-from}
@@ -21,6 +22,12 @@ Zero r a b = (i : ℕ) → a ≤ i → i < b → getD r i 0 ≡ 0
 -- those bytes are below 128
 abbrev pub Low : List ℕ → ℕ → ℕ → Type 0
 Low r a b = (i : ℕ) → a ≤ i → i < b → getD r i 0 < 128
+
+-- the n bytes from a on, cut out from behind or from before
+pub drop-take : (a n : ℕ) (s : List ℕ) → drop a (take (a + n) s) ≡ take n (drop a s)
+drop-take zero n s = ap (λ (k : ℕ). take k s) (zero-add n)
+drop-take (suc a) n [] = let e : suc a + n ≡ suc (a + n) = omega arith in ap (λ (k : ℕ). drop (suc a) (take k [])) e ∙ sym (take-nil n)
+drop-take (suc a) n (x ∷ xs) = let e : suc a + n ≡ suc (a + n) = omega arith in ap (λ (k : ℕ). drop (suc a) (take k (x ∷ xs))) e ∙ drop-take a n xs
 
 -- a test of the n bytes from a on
 module _ (f : ℕ → Bool) (s : List ℕ) (a n : ℕ) where

@@ -16,6 +16,10 @@ u16At b k = getD b k 0 + 256 * getD b (k + 1) 0
 unfoldable pub u32At : List ℕ → ℕ → ℕ
 u32At b k = u16At b k + 65536 * u16At b (k + 2)
 
+-- the u64 at k
+unfoldable pub u64At : List ℕ → ℕ → ℕ
+u64At b k = u32At b k + 4294967296 * u32At b (k + 4)
+
 -- v at k, as a u16
 unfoldable pub put16 : List ℕ → ℕ → ℕ → List ℕ
 put16 b k v = set (set b k (v % 256)) (k + 1) (v / 256)
@@ -23,6 +27,10 @@ put16 b k v = set (set b k (v % 256)) (k + 1) (v / 256)
 -- v at k, as a u32
 unfoldable pub put32 : List ℕ → ℕ → ℕ → List ℕ
 put32 b k v = put16 (put16 b k (v % 65536)) (k + 2) (v / 65536)
+
+-- v at k, as a u64
+unfoldable pub put64 : List ℕ → ℕ → ℕ → List ℕ
+put64 b k v = put32 (put32 b k (v % 4294967296)) (k + 4) (v / 4294967296)
 
 pub length-put16 : (b : List ℕ) (k v : ℕ) → length (put16 b k v) ≡ length b
 unfolding put16

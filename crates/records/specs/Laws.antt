@@ -1,2 +1,3 @@
 -- Laws that only proofs use.
 pub mod Zeros
+pub mod Eight

@@ -164,7 +164,7 @@ u16-of w b i o h =
     omega (arith, byte-of w b i o (omega arith), byte-of w b i (o + 1) (omega arith), ap (λ (k : ℕ). getD b k 0) e)
 
 -- lists as long have the same record where they agree on its bytes
-same-record : (w : ℕ) (b c : List ℕ) (i : ℕ) → length c ≡ length b → ((o : ℕ) → o < w → getD c (w * i + o) 0 ≡ getD b (w * i + o) 0) → recordAt w c i ≡ recordAt w b i
+pub same-record : (w : ℕ) (b c : List ℕ) (i : ℕ) → length c ≡ length b → ((o : ℕ) → o < w → getD c (w * i + o) 0 ≡ getD b (w * i + o) 0) → recordAt w c i ≡ recordAt w b i
 unfolding recordAt
 same-record w b c i l h =
     ext-getD 0 (take w (drop (w * i) c)) (take w (drop (w * i) b))

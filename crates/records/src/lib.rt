@@ -5,8 +5,7 @@ ghost use lib.ListN.{length, getD, take, drop, replicate};
 ghost use lib.Seq.{paste};
 ghost use Rattle.texts.specs.Lists.{every};
 ghost use Rattle.texts.specs.Text.{is};
-ghost use Rattle.records.specs.Fields.{u16At, u32At, put16, put32};
-ghost use Rattle.records.specs.Laws.Zeros.{u64At};
+ghost use Rattle.records.specs.Fields.{u16At, u32At, u64At, put16, put32, put64};
 
 // The byte at k.
 pub fn byte_at(s: &[u8], k: usize) -> u8
@@ -73,7 +72,7 @@ pub fn u32_in(s: &[u8], k: usize) -> u32
 }
 
 // The u64 at k, all eight bytes of which are inside: one load.
-fn u64_in(s: &[u8], k: usize) -> u64
+pub fn u64_in(s: &[u8], k: usize) -> u64
     requires { ⌜ k + 7 < length (now s) ⌝ }
     ensures { λ r. ⌜ r ≡ u64At (now (s .entry)) k ⌝ }
 {
@@ -135,6 +134,15 @@ pub fn put_u32(s: &mut [u8], k: usize, v: u32)
 {
     put_u16(s, k, (v % 65536) as u16);
     put_u16(s, k + 2, (v / 65536) as u16);
+}
+
+// v at k, as eight bytes.
+pub fn put_u64(s: &mut [u8], k: usize, v: u64)
+    requires { ⌜ k + 7 < length (now s) ⌝ }
+    ensures { λ _. ⌜ now (s .exit) ≡ put64 (now (s .entry)) k v ⌝ }
+{
+    put_u32(s, k, (v % 4294967296) as u32);
+    put_u32(s, k + 4, (v / 4294967296) as u32);
 }
 
 // All of src into dst from k on.

@@ -6,8 +6,8 @@ use mathlib.Core.Path.{_≡_, refl, sym, ap, _∙_}
 use mathlib.Core.Bool.{Bool, true, not, _&&_}
 use mathlib.Core.List.{List, [], _∷_, _++_}
 use lib.Dec.{ltb}
-use lib.ListN.{length, drop, length-map, length-append}
-use borrow.Author.Tests.{lt-leb, not-true}
+use lib.ListN.{length, drop, length-append}
+use borrow.Author.Tests.{lt-leb, ne-eqb, not-true}
 use Rattle.texts.specs.Choice.{both-true, cases}
 use Rattle.texts.specs.Lists.{some, every}
 use Rattle.texts.specs.Text.{isWord}
@@ -16,9 +16,10 @@ use Rattle.cells.specs.Cells.{cellsOf, text, shortCell, asciiPhones}
 use Rattle.phoneset.specs.Phones.{isKnown}
 use Rattle.data.specs.Sections.{isPhoneTable, isListed}
 use Rattle.slots_spec.specs.Slot.{Entry}
-use Rattle.store_spec.specs.Store.{slots, used, entryAt, entries, sameKey}
+use Rattle.store_spec.specs.Store.{slots, used, count, largest, entries, sameKey}
 use Rattle.store_spec.specs.Adding.{without, adding, isFull}
-use Rattle.store_spec.specs.Sound.{Sound, is-sound, entries-are}
+use Rattle.store_spec.specs.Sound.{Sound, is-sound}
+use Rattle.store_spec.specs.Result.{used-is}
 use Rattle.compiled_spec.specs.Lexicon.{isLexicon}
 use Rattle.answers.specs.declared.Source.{Source}
 use Rattle.answers.specs.Told.{accepted, sourceNumber}
@@ -65,10 +66,6 @@ own-cells table (c ∷ cs) h =
     let ih = own-cells table cs (b .1) in
     cases (isListed table (text c)) (λ e. rw (d .0, e, ih)) (λ e. rw (d .0, e, d .1, ih))
 
--- a sound store has used as many slots as it has entries
-used-is : (b : List ℕ) (s : Sound b) → used b ≡ length (entries b)
-used-is b s = sym (ap (λ (l : List Entry). length l) (entries-are b s) ∙ length-map (s .chained) (entryAt b) ∙ s .all)
-
 length-without : (e : Entry) (es : List Entry) → length (without e es) ≤ length es
 unfolding without
 length-without e [] = omega arith
@@ -78,19 +75,20 @@ length-adding : (e : Entry) (es : List Entry) → length (adding e es) ≤ lengt
 unfolding adding
 length-adding e es = let h = length-without e es in simp length-append (omega arith)
 
--- a plain entry is accepted where there is a slot
+-- a plain entry is accepted where there is a slot and the count can rise
 add-plain : (table store : List ℕ) (a : Add) → isPhoneTable table ≡ true → (s : Sound store) → isPlain a ≡ true → length (entries store) + 1 < slots store
-    → addEntry table store (a .word) (a .tag) (a .phones) ≡ accepted 0 0
+    → count store < largest → addEntry table store (a .word) (a .tag) (a .phones) ≡ accepted 0 0
 unfolding isPlain addEntry mayAddAll isFull
-add-plain table store a t s p room =
+add-plain table store a t s p room below =
     let b = both-true ((isWord (a .word) && isWord (a .tag) && asciiPhones (a .phones)) && every isOwn (records 16 (a .phones))) (not (ltb 24 (length (a .phones) / 16))) p in
     let d = both-true (isWord (a .word) && isWord (a .tag) && asciiPhones (a .phones)) (every isOwn (records 16 (a .phones))) (b .0) in
     let u = used-is store s in
+    let c = ne-eqb (count store) largest (λ e. absurd (omega arith)) in
     let f = not-true (ltb 24 (length (a .phones) / 16)) (b .1) in
     let l = lt-leb (slots store) (used store + 1) (omega arith) in
     cases (some (sameKey (newEntry (a .word) (a .tag) (a .phones))) (entries store))
-    (λ k. rw (t, is-sound store s, d .0, own-cells table (records 16 (a .phones)) (d .1), f, k))
-    (λ k. rw (t, is-sound store s, d .0, own-cells table (records 16 (a .phones)) (d .1), f, k, l))
+    (λ k. rw (t, is-sound store s, c, d .0, own-cells table (records 16 (a .phones)) (d .1), f, k))
+    (λ k. rw (t, is-sound store s, c, d .0, own-cells table (records 16 (a .phones)) (d .1), f, k, l))
 
 -- what a store grown by plain entries is
 pub record Grown (table store : List ℕ) (adds : List Add) : Type 0 where
@@ -99,17 +97,18 @@ pub record Grown (table store : List ℕ) (adds : List Add) : Type 0 where
   pub holds : entries (grown table store adds) ≡ book (entries store) adds
 
 pub grow : (table store : List ℕ) (adds : List Add) → isPhoneTable table ≡ true → Sound store → every isPlain adds ≡ true → length (entries store) + length adds < slots store
-    → Grown table store adds
+    → count store + length adds ≤ largest → Grown table store adds
 unfolding grown book every
-grow table store [] t s p room = record { taken = tt; sound = s; holds = refl }
-grow table store (a ∷ more) t s p room =
+grow table store [] t s p room low = record { taken = tt; sound = s; holds = refl }
+grow table store (a ∷ more) t s p room low =
     let b = both-true (isPlain a) (every isPlain more) p in
-    let h = add-plain table store a t s (b .0) (omega arith) in
+    let h = add-plain table store a t s (b .0) (omega arith) (omega arith) in
     let l = add-law table store (a .word) (a .tag) (a .phones) h in
     let n = length-adding (newEntry (a .word) (a .tag) (a .phones)) (entries store) in
     let k : slots (storeAfter table store (a .word) (a .tag) (a .phones)) ≡ slots store = ap (λ (m : ℕ). m / 512) (l .length) in
     let e : length (entries (storeAfter table store (a .word) (a .tag) (a .phones))) ≡ length (adding (newEntry (a .word) (a .tag) (a .phones)) (entries store)) = ap (λ (es : List Entry). length es) (l .entries) in
-    let g = grow table (storeAfter table store (a .word) (a .tag) (a .phones)) more t (l .sound) (b .1) (omega arith) in
+    let c = l .count (omega arith) in
+    let g = grow table (storeAfter table store (a .word) (a .tag) (a .phones)) more t (l .sound) (b .1) (omega arith) (omega arith) in
     record { taken = (h, g .taken); sound = g .sound; holds = g .holds ∙ ap (λ (es : List Entry). book es more) (l .entries) }
 
 -- phones that are found are answered where the output has room

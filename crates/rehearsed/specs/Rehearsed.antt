@@ -27,7 +27,8 @@ use Rattle.slots_spec.specs.Slot.{Entry}
 use Rattle.store_spec.specs.Store.{slots, entries, isStoreLength, isWanted, sameKey}
 use Rattle.new_store.specs.NewStore.{newStore, newBytes}
 use Rattle.store_spec.specs.Adding.{adding, without, entryFor}
-use Rattle.new_store.specs.Fresh.{fresh, length-fresh, fresh-sound, fresh-entries}
+use Rattle.store_spec.specs.Result.{few as fewSlots}
+use Rattle.new_store.specs.Fresh.{fresh, length-fresh, fresh-sound, fresh-entries, fresh-count}
 use Rattle.compiled_spec.specs.Lexicon.{isLexicon, lexicon-table}
 use Rattle.lexicon_spec.specs.Adding.{newEntry, addedTag}
 use Rattle.lexicon_spec.specs.Lookup.{found, find, wantedTag}
@@ -126,7 +127,9 @@ plain adds word s ps p w f few lex-phones lex-index lex-data b out l n room fits
     let e = fresh-entries b n in
     let k : slots (fresh b n) ≡ slots b = ap (λ (m : ℕ). m / 512) (length-fresh b n) in
     let z : length (entries (fresh b n)) ≡ 0 = ap (λ (es : List Entry). length es) e in
-    let g = grow lex-phones (fresh b n) adds (lexicon-table lex-phones lex-index l) h p (omega arith) in
+    let c = fresh-count b n in
+    let m = fewSlots (length b) n in
+    let g = grow lex-phones (fresh b n) adds (lexicon-table lex-phones lex-index l) h p (omega arith) (omega arith) in
     let t : find (entries (grown lex-phones (fresh b n) adds)) lex-phones lex-index lex-data word 48 ≡ found s ps =
     ap (λ (es : List Entry). find es lex-phones lex-index lex-data word 48) (g .holds ∙ ap (λ (es : List Entry). book es adds) e) ∙ f lex-phones lex-index lex-data in
     let a = answered lex-phones lex-index lex-data (grown lex-phones (fresh b n) adds) word [] out s ps l (g .sound) (rw w) t few fits in

@@ -4,7 +4,7 @@ ghost use mathlib.Core.Bool.{false};
 ghost use Prim.Native.Nat.{_+_, _*_, _/_, _≤_, _<_};
 ghost use lib.ListN.{length};
 ghost use Rattle.records.specs.Chain.{chain, endOf};
-ghost use Rattle.store_spec.specs.Store.{next as nextOf, walks as walksOf, isSound};
+ghost use Rattle.store_spec.specs.Store.{next as nextOf, walks as walksOf, isRest, isSound};
 
 // Whether n slots stand behind slot 0, each numbered 1 to n and sound by itself, and then nothing.
 fn walks(store: &[u8], n: usize) -> bool
@@ -46,6 +46,16 @@ fn last_visited(store: &[u8], n: usize) -> usize
     p
 }
 
+// Whether slot 0 behind "used" is zero, but for the count.
+fn is_rest(rest: &[u8]) -> bool
+    ensures { λ r. ⌜ r ≡ isRest (now (rest .entry)) ⌝ }
+{
+    if !records::are_zeros(records::head(rest, 2)) {
+        return false;
+    }
+    records::are_zeros(records::tail(rest, 10))
+}
+
 // Whether a store is sound.
 pub fn is_sound(store: &[u8]) -> bool
     ensures { λ r. ⌜ r ≡ isSound (now (store .entry)) ⌝ }
@@ -57,7 +67,7 @@ pub fn is_sound(store: &[u8]) -> bool
     if store.len() / 512 <= n {
         return false;
     }
-    if !records::are_zeros(records::tail(store::slot(store, 0), 6)) {
+    if !is_rest(records::tail(store::slot(store, 0), 6)) {
         return false;
     }
     if !walks(store, n) {

@@ -10,3 +10,4 @@ pub mod Found
 pub mod Placed
 pub mod Turns
 pub mod Hashes
+pub mod Counts

@@ -1,4 +1,4 @@
--- What adding must leave: a sound store with the adding rule's entries, as long as it was.
+-- What adding must leave: a sound store with the adding rule's entries, as long as it was, and its count as it was.
 -- Assumes nothing.
 use Prim.Native.Nat.{ℕ, _%_, _≤_, _<_}
 use native.Mathlib.Omega.{arith}
@@ -6,7 +6,7 @@ use mathlib.Core.Path.{_≡_, refl, sym, ap, _∙_, subst}
 use mathlib.Core.Bool.{true, _&&_}
 use mathlib.Core.List.{List, [], _∷_, map}
 use lib.Dec.{eqb, leb}
-use lib.ListN.{length, drop}
+use lib.ListN.{length, drop, length-map}
 use borrow.Author.Tests.{leb-true}
 use Rattle.texts.specs.Choice.{both-true}
 use Rattle.records.specs.Records.{recordAt}
@@ -32,6 +32,7 @@ pub record Added (b c : List ℕ) (e : Entry) : Type 0 where
   pub sound : Sound c
   pub entries : entries c ≡ adding e (entries b)
   pub length : length c ≡ length b
+  pub head : drop 6 (recordAt 512 c 0) ≡ drop 6 (recordAt 512 b 0)
 
 -- a store that holds a chain whose entries are the adding rule's
 module _ (b c : List ℕ) (e : Entry) (s : Sound b) (xs : List ℕ) (long : length c ≡ length b) (h : Linked (next c) 0 xs) (end : endOf 0 xs ≡ last c)
@@ -51,9 +52,17 @@ module _ (b c : List ℕ) (e : Entry) (s : Sound b) (xs : List ℕ) (long : leng
         end = end;
         keys = rw are (keys-adding e (map (entryAt b) (s .chained)) (s .keys));
       } in
-      record { sound = t; entries = entries-are c t ∙ are ∙ ap (λ (l : List Entry). adding e l) (sym (entries-are b s)); length = long }
+      record { sound = t; entries = entries-are c t ∙ are ∙ ap (λ (l : List Entry). adding e l) (sym (entries-are b s)); length = long; head = zeros }
 
--- a store has at most 128 slots
+-- a sound store has used as many slots as it has entries
+pub used-is : (b : List ℕ) (s : Sound b) → used b ≡ length (entries b)
+used-is b s = sym (ap (λ (l : List Entry). length l) (entries-are b s) ∙ length-map (s .chained) (entryAt b) ∙ s .all)
+
+-- a store has at least one slot, and at most 128
+pub long : (n : ℕ) → isStoreLength n ≡ true → 512 ≤ n
+unfolding isStoreLength
+long n h = leb-true 512 n (both-true (leb 512 n) (leb n 65536) (both-true (leb 512 n && leb n 65536) (eqb (n % 512) 0) h .0) .0)
+
 pub few : (n : ℕ) → isStoreLength n ≡ true → n ≤ 65536
 unfolding isStoreLength
 few n h = leb-true n 65536 (both-true (leb 512 n) (leb n 65536) (both-true (leb 512 n && leb n 65536) (eqb (n % 512) 0) h .0) .1)

@@ -10,12 +10,10 @@ use lib.Dec.{eqb, leb, ltb}
 use lib.ListN.{length, drop}
 use borrow.Author.Tests.{eqb-true, eq-eqb, ne-eqb, eqb-false, leb-true, le-leb, ltb-true, lt-ltb, not-true}
 use Rattle.texts.specs.Choice.{both-true}
-use Rattle.texts.specs.Lists.{every}
-use Rattle.texts.specs.Text.{is}
 use Rattle.records.specs.Records.{recordAt}
 use Rattle.records.specs.Chain.{All, Distinct, Linked, chain, endOf, chain-more, chain-linked, distinct}
 use Rattle.slots_spec.specs.Slot.{isSlot}
-use Rattle.store_spec.specs.Store.{next, last, used, slots, entryAt, order, entries, isStoreLength, keysDiffer, walks, isSound}
+use Rattle.store_spec.specs.Store.{next, last, used, slots, entryAt, order, entries, isStoreLength, keysDiffer, walks, isRest, isSound}
 
 -- a slot in the chain: numbered 1 to used, and sound by itself
 pub record Slot (b : List ℕ) (n : ℕ) : Type 0 where
@@ -27,7 +25,7 @@ pub record Slot (b : List ℕ) (n : ℕ) : Type 0 where
 pub record Sound (b : List ℕ) : Type 0 where
   pub size : isStoreLength (length b) ≡ true
   pub room : used b < slots b
-  pub zeros : every (is 0) (drop 6 (recordAt 512 b 0)) ≡ true
+  pub zeros : isRest (drop 6 (recordAt 512 b 0)) ≡ true
   pub chained : List ℕ
   pub linked : Linked (next b) 0 chained
   pub once : Distinct chained
@@ -69,10 +67,10 @@ walked b p (x ∷ xs) h a =
 pub sound : (b : List ℕ) → isSound b ≡ true → Sound b
 unfolding isSound order entries
 sound b h =
-    let k = both-true (isStoreLength (length b) && ltb (used b) (slots b) && every (is 0) (drop 6 (recordAt 512 b 0)) && walks b (used b) (used b) 0 && eqb (endOf 0 (order b)) (last b)) (keysDiffer (entries b)) h in
-    let e = both-true (isStoreLength (length b) && ltb (used b) (slots b) && every (is 0) (drop 6 (recordAt 512 b 0)) && walks b (used b) (used b) 0) (eqb (endOf 0 (order b)) (last b)) (k .0) in
-    let w = both-true (isStoreLength (length b) && ltb (used b) (slots b) && every (is 0) (drop 6 (recordAt 512 b 0))) (walks b (used b) (used b) 0) (e .0) in
-    let z = both-true (isStoreLength (length b) && ltb (used b) (slots b)) (every (is 0) (drop 6 (recordAt 512 b 0))) (w .0) in
+    let k = both-true (isStoreLength (length b) && ltb (used b) (slots b) && isRest (drop 6 (recordAt 512 b 0)) && walks b (used b) (used b) 0 && eqb (endOf 0 (order b)) (last b)) (keysDiffer (entries b)) h in
+    let e = both-true (isStoreLength (length b) && ltb (used b) (slots b) && isRest (drop 6 (recordAt 512 b 0)) && walks b (used b) (used b) 0) (eqb (endOf 0 (order b)) (last b)) (k .0) in
+    let w = both-true (isStoreLength (length b) && ltb (used b) (slots b) && isRest (drop 6 (recordAt 512 b 0))) (walks b (used b) (used b) 0) (e .0) in
+    let z = both-true (isStoreLength (length b) && ltb (used b) (slots b)) (isRest (drop 6 (recordAt 512 b 0))) (w .0) in
     let r = both-true (isStoreLength (length b)) (ltb (used b) (slots b)) (z .0) in
     let l = walk-linked b (used b) 0 (w .1) in
     record {

@@ -2,23 +2,24 @@
 -- Assumes nothing.
 use Prim.Native.Nat.{ℕ, zero, suc, _*_, _%_, _/_, _≤_, _<_}
 use native.Mathlib.Omega.{arith}
-use mathlib.Core.Path.{_≡_, refl, sym}
+use mathlib.Core.Path.{_≡_, refl, sym, ap, _∙_}
 use mathlib.Core.Logic.{_≢_}
 use mathlib.Core.Bool.{true, false, not, _&&_}
 use mathlib.Core.List.{List, [], _∷_, map}
 use lib.Dec.{eqb, leb}
-use lib.ListN.{length, getD, drop}
+use lib.ListN.{length, getD, take, drop}
+use lib.Seq.{drop-drop, take-take}
 use borrow.Author.Tests.{eqb-true, eq-eqb, leb-true, le-leb, not-true}
 use Rattle.texts.specs.Choice.{both-true, is-false, never}
 use Rattle.texts.specs.Lists.{every, some}
 use Rattle.texts.specs.Text.{is}
 use Rattle.records.specs.Records.{recordAt}
 use Rattle.records.specs.Chain.{All, all-map}
-use Rattle.records.specs.Between.{Zero, part-zero, zero-part}
+use Rattle.records.specs.Between.{Zero, drop-take, part-zero, zero-part}
 use Rattle.slots_spec.specs.Slot.{Entry}
 use Rattle.slots_spec.specs.SoundSlot.{SoundSlot}
 use Rattle.slots_spec.specs.Decided.{slot-sound}
-use Rattle.store_spec.specs.Store.{isStoreLength, sameKey, keysDiffer}
+use Rattle.store_spec.specs.Store.{isStoreLength, sameKey, keysDiffer, isRest}
 use Rattle.store_spec.specs.Sound.{Slot, Sound}
 use Rattle.store_spec.specs.Laws.Keys.{either-false, key-true, key-from}
 
@@ -43,14 +44,30 @@ sound-length n s =
     let w = s .whole in
     rw (le-leb 512 n (s .from), le-leb n 65536 (s .to), eq-eqb (n % 512) 0 (omega arith))
 
--- slot 0's bytes past its fields, 6 to 511, are zero
-pub zeros-sound : (b : List ℕ) → every (is 0) (drop 6 (recordAt 512 b 0)) ≡ true → Zero b 6 512
-unfolding recordAt
-zeros-sound b h = part-zero b 6 512 h
+-- slot 0's bytes 6 and 7, and 16 to 511, are zero; those between are the count, and may be anything (02, S-2)
+pub record ZeroHead (b : List ℕ) : Type 0 where
+  pub before : Zero b 6 8
+  pub behind : Zero b 16 512
 
-pub sound-zeros : (b : List ℕ) → Zero b 6 512 → every (is 0) (drop 6 (recordAt 512 b 0)) ≡ true
+-- as the test has these bytes, and as they stand in the store
+before-count : (b : List ℕ) → take 2 (drop 6 (recordAt 512 b 0)) ≡ drop 6 (take 8 b)
 unfolding recordAt
-sound-zeros b z = zero-part b 6 512 z
+before-count b = sym (drop-take 6 2 (take 512 b)) ∙ ap (λ (s : List ℕ). drop 6 s) (take-take 8 512 b (omega arith))
+
+behind-count : (b : List ℕ) → drop 10 (drop 6 (recordAt 512 b 0)) ≡ drop 16 (take 512 b)
+unfolding recordAt
+behind-count b = drop-drop 10 6 (take 512 b)
+
+pub zeros-sound : (b : List ℕ) → isRest (drop 6 (recordAt 512 b 0)) ≡ true → ZeroHead b
+unfolding isRest
+zeros-sound b h =
+    let r = drop 6 (recordAt 512 b 0) in
+    let z = both-true (every (is 0) (take 2 r)) (every (is 0) (drop 10 r)) h in
+    record { before = part-zero b 6 8 (rw before-count at z .0); behind = part-zero b 16 512 (rw behind-count at z .1) }
+
+pub sound-zeros : (b : List ℕ) → ZeroHead b → isRest (drop 6 (recordAt 512 b 0)) ≡ true
+unfolding isRest
+sound-zeros b z = rw (before-count b, behind-count b, zero-part b 6 8 (z .before), zero-part b 16 512 (z .behind))
 
 -- keys differ: at two different places of a chain, where slot n holds entry g n, words or tags differ
 abbrev pub KeysDiffer : (ℕ → Entry) → List ℕ → Type 0

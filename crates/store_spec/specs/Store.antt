@@ -1,13 +1,13 @@
--- 01, Store and sheet: the store, slots of 512 bytes in lent bytes, chained from slot 0 on; when it is sound, and its entries.
+-- 01, Store and sheet, with the count of 02, S-2: the store, slots of 512 bytes in lent bytes, chained from slot 0 on; when it is sound, and its entries.
 -- Assumes nothing.
 use Prim.Native.Nat.{ℕ, zero, suc, _*_, _%_, _/_}
 use mathlib.Core.Bool.{Bool, true, false, not, _&&_}
 use mathlib.Core.List.{List, [], _∷_, map}
 use lib.Dec.{eqb, leb, ltb}
-use lib.ListN.{length, drop}
+use lib.ListN.{length, take, drop}
 use Rattle.texts.specs.Lists.{every, some}
 use Rattle.texts.specs.Text.{is, same, agree}
-use Rattle.records.specs.Fields.{u16At}
+use Rattle.records.specs.Fields.{u16At, u64At, put64}
 use Rattle.records.specs.Records.{recordAt}
 use Rattle.records.specs.Chain.{chain, endOf}
 use Rattle.slots_spec.specs.Slot.{Entry, entryOf, isSlot}
@@ -22,6 +22,18 @@ last b = u16At b 2
 
 abbrev pub used : List ℕ → ℕ
 used b = u16At b 4
+
+-- its count, bytes 8 to 15: how often entries were added (02, S-2)
+abbrev pub count : List ℕ → ℕ
+count b = u64At b 8
+
+-- the store with another count
+abbrev pub withCount : List ℕ → ℕ → List ℕ
+withCount b n = put64 b 8 n
+
+-- the largest count; one higher there is none (refusal 12)
+abbrev pub largest : ℕ
+largest = 18446744073709551615
 
 -- how many slots there are, slot 0 among them
 abbrev pub slots : List ℕ → ℕ
@@ -60,8 +72,12 @@ unfoldable pub walks : List ℕ → ℕ → ℕ → ℕ → Bool
 walks b top zero p = eqb (next b p) 0
 walks b top (suc n) p = not (eqb (next b p) 0) && leb (next b p) top && isSlot (recordAt 512 b (next b p)) && walks b top n (next b p)
 
--- the chain visits as many slots as are used, its last is "last", keys differ, and slot 0 is zero past its fields
+-- slot 0 behind "used" is zero, but for the count
+unfoldable pub isRest : List ℕ → Bool
+isRest r = every (is 0) (take 2 r) && every (is 0) (drop 10 r)
+
+-- the chain visits as many slots as are used, its last is "last", keys differ, and slot 0 is zero but for its fields
 unfoldable pub isSound : List ℕ → Bool
 isSound b =
-    isStoreLength (length b) && ltb (used b) (slots b) && every (is 0) (drop 6 (recordAt 512 b 0))
+    isStoreLength (length b) && ltb (used b) (slots b) && isRest (drop 6 (recordAt 512 b 0))
     && walks b (used b) (used b) 0 && eqb (endOf 0 (order b)) (last b) && keysDiffer (entries b)

@@ -24,9 +24,17 @@ impl Call for AddEntry {
     const SHARE: usize = 30;
     const SHARE_RECORDED: usize = 24;
     const ANSWERS: Rows = &["new key", "known key"];
-    const REFUSALS: &'static [u32] = &[1, 2, 3, 5, 7, 8];
-    const MET: Table =
-        &[rule::ROWS, words::TAG, words::WORD, cells::PHONES, cells::UNREAD, STORE_ORDER, UNSOUND];
+    const REFUSALS: &'static [u32] = &[1, 2, 12, 3, 5, 7, 8];
+    const MET: Table = &[
+        rule::ROWS,
+        words::TAG,
+        words::WORD,
+        cells::PHONES,
+        cells::UNREAD,
+        store_edges::RAISED,
+        STORE_ORDER,
+        UNSOUND,
+    ];
     const LIBRARY: Function = ours::add_entry;
 
     fn short(&self) -> Vec<Input> {
@@ -68,6 +76,7 @@ impl Call for AddEntry {
         met.all(cells::unread(&given.phones));
         met.shared(store_edges::features(&scene.store, scene.entries()));
         let row = Self::ANSWERS[usize::from(known.is_some())];
+        let store = store_edges::raised(&store, met);
         Ok(Told::new(Answer::accepted(0, 0), row, vec![store]))
     }
 
@@ -77,7 +86,7 @@ impl Call for AddEntry {
     }
 
     fn record(&self, random: &mut Random, cases: usize) -> Vec<String> {
-        adding::record(self, random, cases, "runtime entries", to_record, |random, set| {
+        adding::record(self, random, cases, "runtime entries", 0, to_record, |random, set| {
             let names = (0..random.between(1, 9)).map(|_| self.phones.phone(random));
             let lexicon = Lexicon::of(&names.collect::<Vec<_>>(), &[]);
             let words = (0..4).map(|_| short_word(random)).collect();

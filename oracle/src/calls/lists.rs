@@ -1,6 +1,7 @@
-//! Lists of calls on one store and one sheet: new_sheet, add_entry, add_entries and say_word, refused ones too.
-//! Each call gets what the library's call before left. Beside it goes a book, which is the original with its own
-//! list of entries: it is fed the calls and whether each was refused, and says the words of a sheet again.
+//! Lists of calls on one store and one sheet: new_sheet, add_entry, add_entries, its two steps and say_word, refused ones
+//! too. Each call gets what the library's call before left; the spare too, where a list holds a step. Beside it goes a
+//! book, which is the original with its own list of entries: it is fed the calls and whether each was refused, and says
+//! the words of a sheet again.
 
 mod book;
 mod made;
@@ -14,24 +15,28 @@ use book::Book;
 use made::Sources;
 use run::{run, Library};
 
-/// A call of a list. A text comes with the byte that fills the spare, and its length, if that is not the store's.
+/// A call of a list. A text comes with the byte that fills the spare, and its length, if that is not the store's; they
+/// count where the list holds no step.
 #[derive(Clone)]
 pub enum Act {
     NewSheet,
     AddEntry(Add),
     AddText { text: Vec<u8>, fill: u8, spare: Option<usize> },
+    Preview(Vec<u8>),
+    Accept,
     SayWord(Wanted),
 }
 
 impl Shrink for Act {
     fn smaller(&self) -> Vec<Act> {
         match self {
-            Act::NewSheet => vec![],
+            Act::NewSheet | Act::Accept => vec![],
             Act::AddEntry(given) => given.smaller().into_iter().map(Act::AddEntry).collect(),
             Act::AddText { text, fill, spare } => {
                 let made = |text| Act::AddText { text, fill: *fill, spare: *spare };
                 lines::shorter(text).into_iter().map(made).collect()
             }
+            Act::Preview(text) => lines::shorter(text).into_iter().map(Act::Preview).collect(),
             Act::SayWord(wanted) => wanted.smaller().into_iter().map(Act::SayWord).collect(),
         }
     }
@@ -93,6 +98,13 @@ pub struct Input {
 
 smaller!(Input: steps, sheet by shorter_sheet, store by shorter_store, sections);
 
+impl Input {
+    /// Whether each call gets the spare as the one before left it, the first one a new store.
+    fn keeps_spare(&self) -> bool {
+        self.steps.iter().any(|step| matches!(step.act, Act::Preview(_) | Act::Accept))
+    }
+}
+
 fn shorter_sheet(sheet: &[u8]) -> Vec<Vec<u8>> {
     let len = sheet.len();
     let lengths = [ITEM, len / 2, len - len % ITEM, len - 1];
@@ -117,6 +129,8 @@ const CALLS: &[Rows] = &[
     of_call!("new_sheet": "new";),
     of_call!("add_entry": "new key" "known key"; 1 3 5 7 8),
     of_call!("add_entries": "lines taken 0" "lines taken 1" "lines taken 2 and more"; 1 2 3 4 5 7 8),
+    of_call!("preview_entries": "lines taken 0" "lines taken 1" "lines taken 2 and more"; 1 3 4 5 7 8),
+    of_call!("accept_entries": "accepted"; 12),
     of_call!("say_word": "runtime" "addenda" "compiled" "letters"; 1 3 6 7 9),
     &["phone_string: at an utterance's end", "refused call, then an accepted one"],
 ];
@@ -137,7 +151,7 @@ impl Call for Lists {
         "lists of 6 to 20 calls",
         "lists of more calls",
     ];
-    const MET: Table = &[CALLS, book::ROWS, ROWS];
+    const MET: Table = &[CALLS, book::STEPS, book::ROWS, ROWS];
     const LIBRARY: Function = |_| unreachable!("a list is many calls of the library");
 
     fn short(&self) -> Vec<Input> {
@@ -176,9 +190,13 @@ impl Call for Lists {
             format!("  0 new_store {}", notation::bytes(&input.store)),
             format!("  0 new_sheet {}", notation::bytes(&input.sheet)),
         ];
+        let keeps = input.keeps_spare();
+        if keeps {
+            lines.push("  0 a spare equal to the store, which every call gets".into());
+        }
         for (i, step) in (1..).zip(&input.steps) {
             let broken = if step.broken { " (broken sections)" } else { "" };
-            lines.push(format!("  {i} {}{broken}", shown(&step.act)));
+            lines.push(format!("  {i} {}{broken}", shown(&step.act, keeps)));
         }
         lines.join("\n")
     }
@@ -188,22 +206,27 @@ impl Call for Lists {
     }
 }
 
-/// A call as a line, without what it shares with the others.
-fn shown(act: &Act) -> String {
+/// A call as a line, without what it shares with the others, the spare among it where the list keeps one.
+fn shown(act: &Act, keeps: bool) -> String {
     match act {
         Act::NewSheet => "new_sheet".into(),
         Act::AddEntry(given) => notation::line("add_entry", &given.parts(), &[], &[]),
+        Act::AddText { text, .. } if keeps => format!("add_entries {}", notation::bytes(text)),
         Act::AddText { text, fill, spare } => {
             let len = spare.map_or("as long as the store".into(), |len| format!("{len} bytes"));
             format!("add_entries (a spare of {fill:02x}, {len}) {}", notation::bytes(text))
         }
+        Act::Preview(text) => format!("preview_entries {}", notation::bytes(text)),
+        Act::Accept => "accept_entries".into(),
         Act::SayWord(wanted) => notation::line("say_word", &wanted.parts(), &[], &[]),
     }
 }
 
 rows! { ROWS:
-    /// How long the store and the sheet of a list are.
+    /// How long the store and the sheet of a list are, and which spare it has.
     lengths(input: &Input) [
+        "list that keeps its spare" => input.keeps_spare(),
+        "list with any spare each time" => !input.keeps_spare(),
         "sheet of 64 bytes" => input.sheet.len() == ITEM,
         "sheet of 128 bytes" => input.sheet.len() == 2 * ITEM,
         "sheet of up to 4,096 bytes" => input.sheet.len() <= 4_096,

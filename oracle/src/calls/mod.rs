@@ -1,6 +1,7 @@
 //! The calls that are compared, one module each.
 
 mod adding;
+mod filling;
 
 use crate::run::{Compared, Runner};
 
@@ -26,6 +27,9 @@ calls! {
     new_store::NewStore
     add_entry::AddEntry
     add_entries::AddEntries
+    preview_entries::PreviewEntries
+    accept_entries::AcceptEntries
+    two_steps::TwoSteps
     new_sheet::NewSheet
     say_word::SayWord
     phone_string::PhoneString

@@ -40,6 +40,7 @@ impl Call for SayWord {
             &["sheet of 65,536 bytes", "bytes behind the last whole item"],
             &["anything in unused items"],
             &["6: compiled entry", "6: letter tree"],
+            &["store whose count is the largest"],
         ],
         places::ROWS,
         places::UNTOLD,
@@ -111,6 +112,7 @@ impl Call for SayWord {
         met.all(rule::added(input, &word, &before));
         met.shared(input.wanted.met());
         met.shared(sheet_edges::features(&input.sheet, &before));
+        met.shared(store_edges::features(&input.scene.store, input.scene.entries()));
         let after = sheets::with_word(&input.sheet, &before, &word);
         Ok(Told::new(Answer::accepted(0, 0).and(place), origin.row, vec![after]))
     }

@@ -1,4 +1,4 @@
-//! Sections built by hand, and a sheet as one line of text.
+//! Sections built by hand, a store with another count, and a sheet as one line of text.
 #![allow(dead_code)] // each test file takes what it needs
 
 use pronouncer::{Letters, Lexicon, Sheet};
@@ -35,6 +35,13 @@ pub fn cells(phones: &[&str]) -> Vec<u8> {
         cell[1..=phone.len()].copy_from_slice(phone.as_bytes());
     }
     cells
+}
+
+/// A store, or a spare, with this count.
+pub fn with_count(bytes: &[u8], count: u64) -> Vec<u8> {
+    let mut bytes = bytes.to_vec();
+    bytes[8..16].copy_from_slice(&count.to_le_bytes());
+    bytes
 }
 
 /// A lexicon without entries.

@@ -11,7 +11,7 @@ use pronouncer::{Refusal, Setting, Source};
 use std::fs;
 use std::path::Path;
 
-const CALLS: [&str; 15] = [
+const CALLS: [&str; 17] = [
     "check_lexicon",
     "lookup",
     "predict",
@@ -20,6 +20,8 @@ const CALLS: [&str; 15] = [
     "new_store",
     "add_entry",
     "add_entries",
+    "preview_entries",
+    "accept_entries",
     "new_sheet",
     "say_word",
     "phone_string",
@@ -109,6 +111,16 @@ const HEADER_ALTERED: &[(&str, &str, &str)] = &[
         "the header has",
     ),
     (
+        "const uint8_t *store, size_t store_len,\n    uint8_t *spare, size_t spare_len",
+        "uint8_t *store, size_t store_len,\n    uint8_t *spare, size_t spare_len",
+        "the header has",
+    ),
+    (
+        "const uint8_t *spare, size_t spare_len);",
+        "uint8_t *spare, size_t spare_len);",
+        "the header has",
+    ),
+    (
         "uint8_t *sheet, size_t sheet_len);",
         "size_t sheet_len, uint8_t *sheet);",
         "no pointer before it",
@@ -163,6 +175,12 @@ const WORD_AND_TAG: &str = "word: *const u8,
 
 const TAG_AND_WORD: &str = "tag: *const u8, tag_len: usize, word: *const u8, word_len: usize,";
 
+const READ_STORE_AND_SPARE: &str = "store: *const u8,
+        store_len: usize,
+        spare: *mut u8,";
+
+const WRITTEN_STORE_AND_SPARE: &str = "store: *mut u8, store_len: usize, spare: *mut u8,";
+
 const IS_VOWEL: &str = "fn pronouncer_is_vowel(phone: *const u8, phone_len: usize) -> Answer;";
 
 /// Alterations of the binding, each with words of what must be told.
@@ -171,6 +189,8 @@ const BINDING_ALTERED: &[(&str, &str, &str)] = &[
     ("data: *const u8,", "data: *mut u8,", "the binding has"),
     ("out: *mut u8,", "out: *const u8,", "the binding has"),
     (WORD_AND_TAG, TAG_AND_WORD, "the binding has"),
+    ("spare: *const u8,", "spare: *mut u8,", "the binding has"),
+    (READ_STORE_AND_SPARE, WRITTEN_STORE_AND_SPARE, "the binding has"),
     ("marks_len: usize", "marks_len: u32", "marks has no length behind it"),
     ("marks_len: usize", "marks_len: u16", "no part of a slice"),
     ("version: u32,\n        show: f32,", "show: f32,\n        version: u32,", "the binding has"),
@@ -211,6 +231,10 @@ fn an_altered_source_is_told() {
         (
             "pronouncer_new_store(store: &mut [u8]) -> Answer",
             "pronouncer_new_store(store: &mut [u8]) -> Count",
+        ),
+        (
+            "pronouncer_accept_entries(store: &mut [u8], spare: &[u8])",
+            "pronouncer_accept_entries(spare: &[u8], store: &mut [u8])",
         ),
         ("version: u32, show: f32", "version: u32, show: u32"),
         ("version: u32, show: f32", "show: f32, version: u32"),
@@ -304,6 +328,7 @@ fn numbers_are_the_sources() {
         (Refusal::Phones, 7),
         (Refusal::Full, 8),
         (Refusal::Short, 9),
+        (Refusal::Count, 12),
         (Refusal::Version, 15),
         (Refusal::Records, 16),
         (Refusal::Range, 17),

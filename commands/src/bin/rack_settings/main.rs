@@ -3,7 +3,6 @@
 #![forbid(unsafe_code)]
 
 mod faults;
-mod file;
 mod known;
 mod store;
 mod text;
@@ -16,9 +15,10 @@ use std::os::unix::ffi::OsStrExt;
 use std::path::Path;
 use std::process::ExitCode;
 
-use commands::options::{Argument, Known, WrongUse};
+use commands::file;
+use commands::options::{once, Argument, Known, WrongUse};
 use commands::program::{quoted, Fault, Program, Status};
-use pronouncer::{read_settings, write_setting, Refused, Setting};
+use pronouncer::{read_settings, write_setting, Refused, Setting, LARGEST_BYTES};
 
 use faults::{Asks, Call};
 
@@ -130,14 +130,6 @@ impl Set {
     }
 }
 
-/// Keeps what an option says, which may stand once.
-fn once<T>(name: &str, place: &mut Option<T>, told: T) -> Result<(), WrongUse> {
-    match place.replace(told) {
-        None => Ok(()),
-        Some(_) => Err(WrongUse(format!("{name} stands twice"))),
-    }
-}
-
 fn new(text: &OsStr) -> Result<u16, WrongUse> {
     match text.to_str() {
         Some("1") => Ok(1),
@@ -169,7 +161,7 @@ fn run(asked: &Asked, out: &mut dyn Write) -> Result<Status, Fault> {
     }
     let (mut store, length) = match asked.new {
         Some(version) => store::new(version),
-        None => file::read(file)?,
+        None => read(file)?,
     };
     let reader = asked.reader.or(store::version(&store)).unwrap_or(known::LATEST);
     let show = asked.show.unwrap_or(1.0);
@@ -185,8 +177,14 @@ fn run(asked: &Asked, out: &mut dyn Write) -> Result<Status, Fault> {
     let settings = read_settings(&store, reader, show);
     let settings = settings.map_err(|why| refused(why, &store, Asks::Read(show)))?;
     if asked.new.is_some() || asked.set.is_some() {
-        file::replace(file, &store)?;
+        file::replace(PROGRAM.name, file, &store)?;
     }
     text::write(&store, reader, show, &settings, out)?;
     Ok(Status::Done)
+}
+
+/// The bytes of a file, and how many it has.
+fn read(file: &Path) -> Result<(Vec<u8>, u64), Fault> {
+    file::read(file, LARGEST_BYTES)
+        .map_err(|error| Fault::Told(format!("cannot read {}: {error}", file.display())))
 }

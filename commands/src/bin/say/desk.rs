@@ -4,6 +4,7 @@ use std::io::Write;
 
 use commands::program::{tell, Fault, Status};
 use commands::refusals;
+use commands::typed::Word;
 use pronouncer::{Letters, Lexicon, Refused, Sayable, Sheet, Source, Store};
 use pronouncer::{LARGEST_BYTES, LIST_BYTES};
 
@@ -17,34 +18,6 @@ pub struct Desk<'a> {
     pub store: Store<'a>,
     /// Whether words are asked in their plain form.
     pub plain: bool,
-}
-
-/// A word and its tag.
-#[derive(Debug, Clone, PartialEq, Eq)]
-pub struct Word {
-    pub text: Vec<u8>,
-    pub tag: Vec<u8>,
-}
-
-impl Word {
-    /// A tag stands behind the first slash, where there is a word before it.
-    fn typed(field: &[u8]) -> Word {
-        let slash = field.iter().skip(1).position(|byte| *byte == b'/');
-        let (text, tag) = match slash {
-            Some(at) => (&field[..at + 1], &field[at + 2..]),
-            None => (field, &field[..0]),
-        };
-        Word { text: text.to_vec(), tag: tag.to_vec() }
-    }
-
-    /// As it is typed.
-    pub fn field(&self) -> Vec<u8> {
-        if self.tag.is_empty() {
-            self.text.clone()
-        } else {
-            [&self.text[..], b"/", &self.tag].concat()
-        }
-    }
 }
 
 /// What was told of a word.

@@ -3,7 +3,6 @@
 #![forbid(unsafe_code)]
 
 mod desk;
-mod entries;
 mod plain;
 mod warnings;
 mod words;
@@ -11,25 +10,30 @@ mod words;
 use std::env;
 use std::ffi::OsString;
 use std::io::Write;
+use std::path::Path;
 use std::process::ExitCode;
 
-use commands::options::{Argument, Known, WrongUse};
+use commands::options::{once, Argument, Known, WrongUse};
 use commands::program::{Fault, Program, Status};
-use pronouncer::{Store, Tables, LARGEST_BYTES};
+use commands::{entries, stores, tables};
+use pronouncer::{Lexicon, Store, Tables};
 
 use desk::Desk;
 
 const PROGRAM: Program = Program {
     name: "say",
     help: "\
-say [--tables FOLDER] [--entries FILE] .. [--plain] [--] [WORD ..]
+say [--tables FOLDER] [--store STORE_FILE] [--entries FILE] .. [--plain] [--] [WORD ..]
 
 Tells each WORD's source, its syllables, each behind its stress, and their phones. A WORD may have a tag behind a
 slash, as lead/v. With no WORD, words are read from standard input, and each line is answered as it comes.
 
   --tables FOLDER   the sections: lex.phones, lex.index, lex.data, lts.phones, lts.index and lts.model, and aswd.p and
                     aswd.s for warnings; usually the folder that PRONOUNCER_TABLES names, or tables/english/sections
-  --entries FILE    lines `word tag : phones`, which are added first; of several files the later ones come behind
+  --store STORE_FILE
+                    a store of names, which names keeps; it is not written
+  --entries FILE    lines `word tag : phones`, which are added first, behind the store's; of several files the later
+                    ones come behind
   --plain           a word that is not found is asked in small letters, then without outer punctuation, then without
                     a last 's, 've, 'll or 'd, which is asked behind it; what was asked stands behind ->
   --help            this text
@@ -41,6 +45,10 @@ something was refused or a word from its letters has no phones, with 2 if the co
     options: &[
         Known {
             name: "--tables",
+            has_value: true,
+        },
+        Known {
+            name: "--store",
             has_value: true,
         },
         Known {
@@ -62,6 +70,7 @@ fn main() -> ExitCode {
 #[derive(Default)]
 struct Asked {
     tables: Option<OsString>,
+    store: Option<OsString>,
     entries: Vec<OsString>,
     plain: bool,
     /// Texts of words; standard input if there are none.
@@ -73,10 +82,10 @@ impl Asked {
         let mut asked = Asked::default();
         for argument in arguments {
             match argument {
-                Argument::Value("--tables", _) if asked.tables.is_some() => {
-                    return Err(WrongUse("--tables stands twice".into()));
+                Argument::Value(name @ "--tables", folder) => {
+                    once(name, &mut asked.tables, folder)?;
                 }
-                Argument::Value("--tables", folder) => asked.tables = Some(folder),
+                Argument::Value(name @ "--store", file) => once(name, &mut asked.store, file)?,
                 Argument::Value(_, file) => asked.entries.push(file),
                 Argument::Option(_) => asked.plain = true,
                 Argument::Operand(text) => asked.texts.push(text),
@@ -84,21 +93,19 @@ impl Asked {
         }
         Ok(asked)
     }
-
-    fn folder(&self) -> OsString {
-        let usual = env::var_os("PRONOUNCER_TABLES").filter(|folder| !folder.is_empty());
-        let told = self.tables.clone().or(usual);
-        told.unwrap_or("tables/english/sections".into())
-    }
 }
 
-/// The entries first, then the words.
+/// The store and the entries first, then the words.
 fn run(asked: &Asked, out: &mut dyn Write) -> Result<Status, Fault> {
-    let tables = Tables::read(asked.folder()).map_err(|error| Fault::Told(error.to_string()))?;
-    let mut slots = vec![0; LARGEST_BYTES];
-    let mut store = Store::new_store(&mut slots).map_err(|error| Fault::Told(error.to_string()))?;
+    let folder = tables::folder(asked.tables.as_deref());
+    let tables = Tables::read(folder).map_err(|error| Fault::Told(error.to_string()))?;
+    let mut slots = match &asked.store {
+        Some(file) => stores::read(file.as_ref())?,
+        None => stores::new()?,
+    };
+    let mut store = Store::over(&mut slots);
     for file in &asked.entries {
-        let taken = entries::add(&tables.lexicon(), &mut store, file.as_ref())?;
+        let taken = add(&tables.lexicon(), &mut store, file.as_ref())?;
         writeln!(out, "entries: {taken} taken")?;
     }
     let desk = Desk {
@@ -113,4 +120,12 @@ fn run(asked: &Asked, out: &mut dyn Write) -> Result<Status, Fault> {
     } else {
         words::from_texts(&desk, &asked.texts, out)
     }
+}
+
+/// Adds the entries of a file, and tells how many there were.
+fn add(lexicon: &Lexicon, store: &mut Store, file: &Path) -> Result<usize, Fault> {
+    let text = entries::read(file)?;
+    let mut spare = vec![0; store.bytes().len()];
+    let taken = store.add_entries(lexicon, &mut spare, &text);
+    taken.map_err(|refused| Fault::Told(entries::refused(lexicon, file, &text, refused)))
 }

@@ -1,6 +1,8 @@
 //! A word as a desk types it, turned into words to ask for.
 
-use crate::desk::{Desk, Word};
+use commands::typed::Word;
+
+use crate::desk::Desk;
 
 /// Endings that are words of their own.
 const ENDINGS: [&[u8]; 4] = [b"'s", b"'ve", b"'ll", b"'d"];

@@ -1,8 +1,9 @@
 //! What is doubtful about a word that was said from its letters, and what to do.
 
 use commands::program::quoted;
+use commands::typed::Word;
 
-use crate::desk::{Desk, Said, Word};
+use crate::desk::{Desk, Said};
 use crate::plain;
 
 /// The first warning that applies.

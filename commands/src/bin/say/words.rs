@@ -5,6 +5,7 @@ use std::io::{self, BufRead, IsTerminal, Read, Write};
 use std::os::unix::ffi::OsStrExt;
 
 use commands::program::{tell, Fault, Status};
+use commands::typed::fields;
 
 use crate::desk::Desk;
 
@@ -55,9 +56,4 @@ fn said(desk: &Desk, text: &[u8], out: &mut dyn Write) -> Result<Status, Fault> 
         status = status.and(desk.say(field, out)?);
     }
     Ok(status)
-}
-
-/// What stands between blanks, which are the library's: the bytes 9 to 13 and 32.
-pub fn fields(text: &[u8]) -> impl Iterator<Item = &[u8]> {
-    text.split(|byte| matches!(byte, 9..=13 | b' ')).filter(|field| !field.is_empty())
 }

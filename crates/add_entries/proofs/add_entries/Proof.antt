@@ -2,14 +2,17 @@
 use borrow.Author.Needs.{needs}
 use Rattle.add_entries.proofs.add_entries.Statement.{statement}
 use mathlib.Core.Path.{_≡_, refl, sym, _∙_}
-use mathlib.Core.Bool.{true}
+use mathlib.Core.Bool.{true, false}
 use lib.Dec.{eqb}
 use lib.ListN.{length}
 use borrow.Author.Tests.{not-true, not-false, eq-eqb, ne-eqb}
 use Rattle.texts.specs.Text.{ascii}
 use Rattle.data.specs.Sections.{isPhoneTable}
-use Rattle.store_spec.specs.Store.{isSound}
+use Rattle.store_spec.specs.Store.{isSound, count, largest}
+use Rattle.store_spec.specs.Sound.{sound}
+use Rattle.store_spec.specs.Result.{long}
 use Rattle.add_entries.specs.AddEntries.{barred, addEntries, storeAfter, spareAfter}
+use Rattle.add_entries.specs.Ends.{Read}
 use Rattle.add_entries.proofs.add_entries.Tie as tie
 
 hasTable : (c : tie.Else1) → isPhoneTable (c .before .before .before .before .before .before .args .table .now) ≡ true
@@ -21,8 +24,21 @@ isStore c = sym (c .before .is-sound .ensures) ∙ not-false (c .before .is-soun
 isLong : (c : tie.Else3) → eqb (length (c .before .before .before .before .before .before .before .before .before .before .args .spare .now)) (length (c .before .before .before .before .before .before .before .before .before .before .args .store .now)) ≡ true
 isLong c = eq-eqb (length (c .before .before .before .before .before .before .before .before .before .before .args .spare .now)) (length (c .before .before .before .before .before .before .before .before .before .before .args .store .now)) (c .if3 .left)
 
-isText : (c : tie.Else4) → ascii (c .before .before .before .before .before .before .before .before .before .before .before .before .args .text .now) ≡ true
-isText c = sym (c .before .is-ascii .ensures) ∙ not-false (c .before .is-ascii .result) (c .if4 .left)
+below : (c : tie.Else4) → count (c .before .before .before .before .before .before .before .before .before .before .before .before .before .before .args .store .now) ≡ largest → ⊥
+below c e = c .if4 .left (c .before .before .count .ensures ∙ e ∙ sym (c .before .largest .ensures))
+
+mayRise : (c : tie.Else4) → eqb (count (c .before .before .before .before .before .before .before .before .before .before .before .before .before .before .args .store .now)) largest ≡ false
+mayRise c = ne-eqb (count (c .before .before .before .before .before .before .before .before .before .before .before .before .before .before .args .store .now)) largest (below c)
+
+passed : (c : tie.Else5) → Read (c .before .before .before .before .before .before .before .before .before .before .before .before .before .before .before .before .args .table .now) (c .before .before .before .before .before .before .before .before .before .before .before .before .before .before .before .before .args .store .now) (c .before .before .before .before .before .before .before .before .before .before .before .before .before .before .before .before .args .spare .now) (c .before .before .before .before .before .before .before .before .before .before .before .before .before .before .before .before .args .text .now)
+passed c =
+    record {
+      tabled = hasTable (c .before .before .before .before .before .before .before .before .before .before);
+      stored = isStore (c .before .before .before .before .before .before .before);
+      alike = isLong (c .before .before .before .before .before .before);
+      rises = mayRise (c .before .before);
+      low = sym (c .before .is-ascii .ensures) ∙ not-false (c .before .is-ascii .result) (c .if5 .left);
+    }
 
 is-phone-table-requires : tie.Need-is-phone-table-requires
 is-phone-table-requires c κs = search needs
@@ -43,7 +59,7 @@ returns-2 : tie.Need-returns-2
 unfolding addEntries storeAfter spareAfter barred
 returns-2 c =
     let t = sym (c .before .is-sound .ensures) ∙ not-true (c .before .is-sound .result) (c .if2 .taken) in
-    let a = hasTable ((c .before .before .before)) in
+    let a = hasTable (c .before .before .before) in
     (rw (a, t), (rw (a, t), rw (a, t)))
 
 same-length-2 : tie.Need-same-length-2
@@ -53,12 +69,15 @@ returns-3 : tie.Need-returns-3
 unfolding addEntries storeAfter spareAfter barred
 returns-3 c =
     let t = ne-eqb (length (c .before .before .before .before .before .before .before .before .before .before .args .spare .now)) (length (c .before .before .before .before .before .before .before .before .before .before .args .store .now)) (c .if3 .taken) in
-    let a = hasTable ((c .before .before .before .before)) in
-    let b = isStore ((c .before)) in
+    let a = hasTable (c .before .before .before .before) in
+    let b = isStore (c .before) in
     (rw (a, b, t), (rw (a, b, t), rw (a, b, t)))
 
-is-ascii-requires : tie.Need-is-ascii-requires
-is-ascii-requires c κs = search needs
+count-requires : tie.Need-count-requires
+count-requires c κs = let b = c .before .before .before .before .before .before .before .before .before .before .before .args .store .now in long (length b) (sound b (isStore (c .before .before)) .size)
+
+largest-requires : tie.Need-largest-requires
+largest-requires c κs = search needs
 
 same-length-3 : tie.Need-same-length-3
 same-length-3 c = refl
@@ -66,29 +85,43 @@ same-length-3 c = refl
 returns-4 : tie.Need-returns-4
 unfolding addEntries storeAfter spareAfter barred
 returns-4 c =
-    let t = sym (c .before .is-ascii .ensures) ∙ not-true (c .before .is-ascii .result) (c .if4 .taken) in
-    let a = hasTable ((c .before .before .before .before .before .before)) in
-    let b = isStore ((c .before .before .before)) in
-    let d = isLong ((c .before .before)) in
+    let t = eq-eqb (count (c .before .before .before .before .before .before .before .before .before .before .before .before .before .before .args .store .now)) largest (sym (c .before .before .count .ensures) ∙ c .if4 .taken ∙ c .before .largest .ensures) in
+    let a = hasTable (c .before .before .before .before .before .before .before .before) in
+    let b = isStore (c .before .before .before .before .before) in
+    let d = isLong (c .before .before .before .before) in
     (rw (a, b, d, t), (rw (a, b, d, t), rw (a, b, d, t)))
 
-fill-and-take-requires : tie.Need-fill-and-take-requires
-fill-and-take-requires c κs = (hasTable ((c .before .before .before .before .before .before .before .before)), isStore ((c .before .before .before .before .before)), c .before .before .before .before .if3 .left, isText ((c .before .before)))
+is-ascii-requires : tie.Need-is-ascii-requires
+is-ascii-requires c κs = search needs
 
 same-length-4 : tie.Need-same-length-4
-same-length-4 c = c .before .before .before .before .fill-and-take .kept .1 .0
-
-same-length-5 : tie.Need-same-length-5
-same-length-5 c = c .before .before .before .before .fill-and-take .kept .1 .1 .0
+same-length-4 c = refl
 
 returns-5 : tie.Need-returns-5
 unfolding addEntries storeAfter spareAfter barred
 returns-5 c =
-    let a = hasTable ((c .before .before .before .before .before .before .before .before .before .before .before .before .before)) in
-    let b = isStore ((c .before .before .before .before .before .before .before .before .before .before)) in
-    let d = isLong ((c .before .before .before .before .before .before .before .before .before)) in
-    let t = isText ((c .before .before .before .before .before .before .before)) in
-    (c .before .before .before .before .fill-and-take .ensures .0 ∙ rw (a, b, d, t), (c .before .before .before .before .fill-and-take .ensures .1 .0 ∙ rw (a, b, d, t), c .before .before .before .before .fill-and-take .ensures .1 .1 ∙ rw (a, b, d, t)))
+    let t = sym (c .before .is-ascii .ensures) ∙ not-true (c .before .is-ascii .result) (c .if5 .taken) in
+    let a = hasTable (c .before .before .before .before .before .before .before .before .before .before) in
+    let b = isStore (c .before .before .before .before .before .before .before) in
+    let d = isLong (c .before .before .before .before .before .before) in
+    let e = mayRise (c .before .before) in
+    (rw (a, b, d, e, t), (rw (a, b, d, e, t), rw (a, b, d, e, t)))
+
+fill-and-take-requires : tie.Need-fill-and-take-requires
+fill-and-take-requires c κs = let p = passed (c .before .before) in (p .tabled, p .stored, c .before .before .before .before .before .before .before .before .if3 .left, below (c .before .before .before .before), p .low)
+
+same-length-5 : tie.Need-same-length-5
+same-length-5 c = c .before .before .before .before .fill-and-take .kept .1 .0
+
+same-length-6 : tie.Need-same-length-6
+same-length-6 c = c .before .before .before .before .fill-and-take .kept .1 .1 .0
+
+returns-6 : tie.Need-returns-6
+unfolding addEntries storeAfter spareAfter barred
+returns-6 c =
+    let p = passed (c .before .before .before .before .before .before .before) in
+    let q = c .before .before .before .before .fill-and-take .ensures in
+    (q .0 ∙ rw (p .tabled, p .stored, p .alike, p .rises, p .low), (q .1 .0 ∙ rw (p .tabled, p .stored, p .alike, p .rises, p .low), q .1 .1 ∙ rw (p .tabled, p .stored, p .alike, p .rises, p .low)))
 
 pub add-entries-spec : {M : Type 1} → statement M
 add-entries-spec =
@@ -101,10 +134,14 @@ add-entries-spec =
     returns-2
     same-length-2
     returns-3
-    is-ascii-requires
+    count-requires
+    largest-requires
     same-length-3
     returns-4
-    fill-and-take-requires
+    is-ascii-requires
     same-length-4
+    returns-5
+    fill-and-take-requires
     same-length-5
-    returns-5)
+    same-length-6
+    returns-6)

@@ -8,7 +8,7 @@ use lib.Dec.{eqb}
 use borrow.Author.Tests.{eq-eqb}
 use Rattle.answers.specs.declared.Answer.{Answer}
 use Rattle.answers.specs.declared.Refusal.{Refusal}
-use Rattle.answers.specs.declared.Refusal.the-variants.{Section, Unsound, Text, Line, UnknownPhone, Damaged, Phones, Full, Short, Version, Records, Range}
+use Rattle.answers.specs.declared.Refusal.the-variants.{Section, Unsound, Text, Line, UnknownPhone, Damaged, Phones, Full, Short, Count, Version, Records, Range}
 use Rattle.answers.specs.Told.{refusalNumber, refused, accepted}
 
 pub not-zero : (r : Refusal) → eqb (refusalNumber r) 0 ≡ false
@@ -21,6 +21,7 @@ not-zero Damaged = refl
 not-zero Phones = refl
 not-zero Full = refl
 not-zero Short = refl
+not-zero Count = refl
 not-zero Version = refl
 not-zero Records = refl
 not-zero Range = refl

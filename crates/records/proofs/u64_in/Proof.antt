@@ -1,5 +1,5 @@
 -- `records::u64_in` meets its contract: both halves are inside where all eight bytes are. Assumes nothing.
-use Rattle.records.specs.Laws.Zeros.{u64At}
+use Rattle.records.specs.Fields.{u64At}
 use borrow.Author.Needs.{needs}
 use Rattle.records.proofs.u64_in.Statement.{statement}
 use Rattle.records.proofs.u64_in.Tie as tie

@@ -11,11 +11,7 @@ use borrow.Author.Tests.{ltb-true, ltb-false, eqb-true, eqb-false, eq-eqb}
 use Rattle.texts.specs.Choice.{cases, is-false, both-true}
 use Rattle.texts.specs.Lists.{every}
 use Rattle.texts.specs.Text.{is}
-use Rattle.records.specs.Fields.{u16At, u32At}
-
--- the u64 at k
-unfoldable pub u64At : List ℕ → ℕ → ℕ
-u64At b k = u32At b k + 4294967296 * u32At b (k + 4)
+use Rattle.records.specs.Fields.{u16At, u32At, u64At}
 
 -- the first k bytes are zero
 abbrev pub ZeroBelow : List ℕ → ℕ → Type 0

@@ -8,11 +8,9 @@ use mathlib.Core.Bool.{true, _&&_}
 use lib.ListN.{length, drop}
 use lib.Dec.{eqb, leb, ltb}
 use Rattle.texts.specs.Choice.{both-true}
-use Rattle.texts.specs.Text.{is}
-use Rattle.texts.specs.Lists.{every}
 use Rattle.records.specs.Chain.{chain, endOf}
 use Rattle.records.specs.Records.{recordAt}
-use Rattle.store_spec.specs.Store.{next, last, used, slots, entryAt, order, entries, isStoreLength, keysDiffer, walks, isSound}
+use Rattle.store_spec.specs.Store.{next, last, used, slots, entryAt, order, entries, isStoreLength, keysDiffer, walks, isRest, isSound}
 use borrow.Author.Needs.{needs}
 use Rattle.sound_store.proofs.is_sound.Statement.{statement}
 use Rattle.sound_store.proofs.is_sound.Tie as tie
@@ -27,8 +25,8 @@ fitting c = sym (c .before .is-store-length .ensures) ∙ not-false (c .before .
 roomy : (c : tie.Else2) → ltb (used (c .before .before .before .before .before .args .store .now)) (slots (c .before .before .before .before .before .args .store .now)) ≡ true
 roomy c = let b = c .before .before .before .before .before .args .store .now in let e = c .before .used .ensures .0 in lt-ltb (used b) (slots b) (omega arith)
 
-zeros : (c : tie.After-are-zeros) → c .are-zeros .result ≡ every (is 0) (drop 6 (recordAt 512 (c .before .before .before .before .before .before .before .before .args .store .now) 0))
-zeros c = c .are-zeros .ensures ∙ ap (λ (s : List ℕ). every (is 0) s) (c .before .tail .ensures ∙ ap (λ (s : List ℕ). drop 6 s) (c .before .before .slot .ensures))
+zeros : (c : tie.After-is-rest) → c .is-rest .result ≡ isRest (drop 6 (recordAt 512 (c .before .before .before .before .before .before .before .before .args .store .now) 0))
+zeros c = c .is-rest .ensures ∙ ap isRest (c .before .tail .ensures ∙ ap (λ (s : List ℕ). drop 6 s) (c .before .before .slot .ensures))
 
 walked : (c : tie.After-walks) → c .walks .result ≡ walks (c .before .before .before .before .before .before .before .before .before .before .args .store .now) (used (c .before .before .before .before .before .before .before .before .before .before .args .store .now)) (used (c .before .before .before .before .before .before .before .before .before .before .args .store .now)) 0
 walked c = c .walks .ensures ∙ ap (λ (n : ℕ). walks (c .before .before .before .before .before .before .before .before .before .before .args .store .now) n n 0) (c .before .before .before .before .before .before .used .ensures .0)
@@ -60,19 +58,19 @@ slot-requires c κs = search needs
 tail-requires : tie.Need-tail-requires
 tail-requires c κs = search needs
 
-are-zeros-requires : tie.Need-are-zeros-requires
-are-zeros-requires c κs = search needs
+is-rest-requires : tie.Need-is-rest-requires
+is-rest-requires c κs = search needs
 
 returns-3 : tie.Need-returns-3
 unfolding isSound
-returns-3 c = rw (fitting (c .before .before .before .before .before .before), roomy (c .before .before .before .before), sym (zeros (c .before)) ∙ not-true (c .before .are-zeros .result) (c .if3 .taken))
+returns-3 c = rw (fitting (c .before .before .before .before .before .before), roomy (c .before .before .before .before), sym (zeros (c .before)) ∙ not-true (c .before .is-rest .result) (c .if3 .taken))
 
 walks-requires : tie.Need-walks-requires
 walks-requires c κs = (omega arith, c .before .before .before .before .before .used .ensures .1)
 
 returns-4 : tie.Need-returns-4
 unfolding isSound
-returns-4 c = rw (fitting (c .before .before .before .before .before .before .before .before), roomy (c .before .before .before .before .before .before), sym (zeros (c .before .before .before)) ∙ not-false (c .before .before .before .are-zeros .result) (c .before .before .if3 .left), sym (walked (c .before)) ∙ not-true (c .before .walks .result) (c .if4 .taken))
+returns-4 c = rw (fitting (c .before .before .before .before .before .before .before .before), roomy (c .before .before .before .before .before .before), sym (zeros (c .before .before .before)) ∙ not-false (c .before .before .before .is-rest .result) (c .before .before .if3 .left), sym (walked (c .before)) ∙ not-true (c .before .walks .result) (c .if4 .taken))
 
 last-visited-requires : tie.Need-last-visited-requires
 last-visited-requires c κs = search needs
@@ -88,7 +86,7 @@ unfolding isSound
 returns-5 c =
     let b = c .before .before .before .before .before .before .before .before .before .before .before .before .before .before .args .store .now in
     let e = ne-eqb (endOf 0 (order b)) (last b) (λ z. c .if5 .taken (ended (c .before .before) ∙ z ∙ sym (c .before .u16-at .ensures))) in
-    rw (fitting (c .before .before .before .before .before .before .before .before .before .before .before), roomy (c .before .before .before .before .before .before .before .before .before), sym (zeros (c .before .before .before .before .before .before)) ∙ not-false (c .before .before .before .before .before .before .are-zeros .result) (c .before .before .before .before .before .if3 .left), sym (walked (c .before .before .before .before)) ∙ not-false (c .before .before .before .before .walks .result) (c .before .before .before .if4 .left), e)
+    rw (fitting (c .before .before .before .before .before .before .before .before .before .before .before), roomy (c .before .before .before .before .before .before .before .before .before), sym (zeros (c .before .before .before .before .before .before)) ∙ not-false (c .before .before .before .before .before .before .is-rest .result) (c .before .before .before .before .before .if3 .left), sym (walked (c .before .before .before .before)) ∙ not-false (c .before .before .before .before .walks .result) (c .before .before .before .if4 .left), e)
 
 keys-differ-requires : tie.Need-keys-differ-requires
 keys-differ-requires c κs = let h = store-small (length (c .before .before .before .before .before .before .before .before .before .before .before .before .before .before .args .store .now)) (fitting (c .before .before .before .before .before .before .before .before .before .before .before)) in omega arith
@@ -98,7 +96,7 @@ unfolding isSound entries order
 returns-6 c =
     let b = c .before .before .before .before .before .before .before .before .before .before .before .before .before .before .before .args .store .now in
     let e = eq-eqb (endOf 0 (order b)) (last b) (sym (ended (c .before .before .before)) ∙ c .before .if5 .left ∙ c .before .before .u16-at .ensures) in
-    rw (fitting (c .before .before .before .before .before .before .before .before .before .before .before .before), roomy (c .before .before .before .before .before .before .before .before .before .before), sym (zeros (c .before .before .before .before .before .before .before)) ∙ not-false (c .before .before .before .before .before .before .before .are-zeros .result) (c .before .before .before .before .before .before .if3 .left), sym (walked (c .before .before .before .before .before)) ∙ not-false (c .before .before .before .before .before .walks .result) (c .before .before .before .before .if4 .left), e)
+    rw (fitting (c .before .before .before .before .before .before .before .before .before .before .before .before), roomy (c .before .before .before .before .before .before .before .before .before .before), sym (zeros (c .before .before .before .before .before .before .before)) ∙ not-false (c .before .before .before .before .before .before .before .is-rest .result) (c .before .before .before .before .before .before .if3 .left), sym (walked (c .before .before .before .before .before)) ∙ not-false (c .before .before .before .before .before .walks .result) (c .before .before .before .before .if4 .left), e)
     (c .keys-differ .ensures ∙ ap (λ (n : ℕ). keysDiffer (map (entryAt b) (chain (next b) n 0))) (c .before .before .before .before .before .before .before .before .before .before .before .used .ensures .0))
 
 pub is-sound-spec : {M : Type 1} → statement M
@@ -111,7 +109,7 @@ is-sound-spec =
     returns-2
     slot-requires
     tail-requires
-    are-zeros-requires
+    is-rest-requires
     returns-3
     walks-requires
     returns-4

@@ -1,16 +1,18 @@
-//! What 01 and the original make of an add.
+//! What the papers and the original make of an add.
 
 use super::Input;
 use crate::lexicons::is_of_the_50;
 use crate::prelude::*;
 
-/// The refusal that 01 gives, if it gives one. Tells what made it.
+/// The refusal that the papers give, if they give one. Tells what made it.
 pub fn refusal(input: &Input, met: &mut Met) -> Result<(), u32> {
     let Input { scene, given } = input;
     let Add { wanted, phones: List { cells, .. } } = given;
     met.refuse(1, scene.lexicon.names.is_none(), || None)?;
-    met.sound(&scene.entries)?;
+    let spent = stores::is_spent(&scene.store);
     let high = wanted.is_refused() || cells.iter().any(is_high);
+    met.sound(&scene.entries).inspect_err(|_| met.all(by_2(spent)))?;
+    met.refuse(12, spent, || by_12(given, high))?;
     met.refuse(3, high, || by_3(given))?;
     let unknown = |cell: &Cell| is_over(cell) || !scene.lexicon.knows(text(cell));
     let first = cells.iter().position(unknown);
@@ -35,8 +37,8 @@ fn asked(input: &Input) -> Result<(Result<(), LexiconError>, Vec<Entry>), String
     one.ok_or("the original takes no tag and an empty one for two things".into())
 }
 
-/// The store that 01 makes of the original's list after an add, or its refusal. The original too must refuse a phone
-/// that it does not know, and leave its list as it was.
+/// The store that 01 makes of the original's list after an add, its count as it was, or its refusal. The original too
+/// must refuse a phone that it does not know, and leave its list as it was.
 pub fn added(input: &Input, met: &mut Met) -> Result<Vec<u8>, Stop> {
     let Input { scene, given } = input;
     let refused = refusal(input, met);
@@ -61,6 +63,17 @@ pub fn added(input: &Input, met: &mut Met) -> Result<Vec<u8>, Stop> {
 }
 
 rows! { pub ROWS:
+    /// What an unsound store has beside.
+    by_2(spent: bool) [
+        "2: and the largest count" => spent,
+    ]
+
+    /// What an add has that is refused by 12.
+    by_12(given: &Add, high: bool) [
+        "12: and refused by 3" => high,
+        "12: and over 24 phones" => given.phones.cells.len() > MOST_PHONES,
+    ]
+
     /// What a word, a tag or a phone has that is refused by 3.
     by_3(given: &Add) {
         let Add { wanted, phones: List { cells, .. } } = given;
@@ -122,7 +135,7 @@ rows! { pub ROWS:
         "known: was the last, and stays" => at == last && last > 0,
         "known: fewer phones than before" => count < was,
         "known: more phones than before" => count > was,
-        "known: nothing changes" => store == &scene.store[..],
+        "known: nothing but the count changes" => store == &scene.store[..],
         "known: no unused slot" => before.len() == stores::room(&scene.store),
     ]
 

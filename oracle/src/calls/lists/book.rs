@@ -1,4 +1,5 @@
-//! The book beside a list of calls: 01 and the original, which has its own entries and the words of the sheet.
+//! The book beside a list of calls: the papers and the original, which has its own entries, the text of the latest
+//! accepted first step, and the words of the sheet.
 
 use super::run::Side;
 use super::state::State;
@@ -14,6 +15,9 @@ pub struct Book<'a> {
     sections: &'a Sections,
     /// The original with its entries; none if it cannot take any.
     entries: Option<lexicon::Lexicon>,
+    pending: Vec<u8>,
+    /// The row of a second step that came now.
+    accept: &'static str,
     sheet: Sheet,
     met: &'a mut Met,
     /// Whether a text stopped behind lines that it took.
@@ -41,7 +45,8 @@ impl<'a> Book<'a> {
     pub fn new(sections: &'a Sections, met: &'a mut Met) -> Book<'a> {
         let table = &sections.table;
         let entries = table.names.as_ref().map(|_| table.original().clone());
-        Book { sections, entries, sheet: Sheet::default(), met, stops: false, refused: false }
+        let (pending, accept, sheet) = (vec![], "accept: right away", Sheet::default());
+        Book { sections, entries, pending, accept, sheet, met, stops: false, refused: false }
     }
 
     /// A call that was not refused. The words before an add saw the old entries.
@@ -53,6 +58,12 @@ impl<'a> Book<'a> {
                 self.sheet.wanted.push(wanted.clone());
                 return Ok(());
             }
+            Act::Preview(text) => {
+                self.pending = text.clone();
+                return Ok(());
+            }
+            // a second step needs no table
+            Act::Accept if self.pending.is_empty() => return Ok(()),
             _ => self.say()?,
         }
         let entries = self.entries.as_mut().ok_or("entries without a table")?;
@@ -62,9 +73,36 @@ impl<'a> Book<'a> {
                 entries.add_entry(ascii(&wanted.word), ways(&wanted.tag)[0], &phones)
             }
             Act::AddText { text, .. } => entries.add_entries(ascii(text)).map(drop),
+            Act::Accept => entries.add_entries(ascii(&self.pending)).map(drop),
             _ => Ok(()),
         });
         told?.map_err(|error| format!("the original refuses: {error}"))
+    }
+
+    /// Whether a second step is accepted follows from the calls before it; the counts must say the same.
+    fn follow(&mut self, act: &Act, answer: &Answer) -> Result<(), String> {
+        let (accepted, stop) = (answer.refusal == 0, answer.refusal > 0 && answer.value > 0);
+        let previewed = self.accept.ends_with("preview");
+        let is_word = matches!(act, Act::SayWord(_));
+        self.met.add("word between the two steps", is_word && accepted && previewed);
+        if let Act::Accept = act {
+            let row = self.accept;
+            self.met.row(row);
+            if accepted == row.starts_with("12") {
+                return Err(format!("the counts are not what the calls before make them: {row}"));
+            }
+        }
+        self.accept = match act {
+            Act::Preview(_) | Act::AddText { .. } if stop => "12: behind a stop",
+            Act::Preview(_) if !accepted && previewed => "accept: a refusal since the preview",
+            Act::Preview(_) if accepted && previewed => "accept: behind another preview",
+            Act::Preview(_) if accepted => "accept: behind a preview",
+            Act::AddEntry(_) if accepted => "12: behind an add entry",
+            Act::AddText { .. } if accepted => "12: behind add text",
+            Act::Accept if accepted => "12: behind an accept",
+            _ => self.accept,
+        };
+        Ok(())
     }
 
     /// Says the words that were not said yet, in one utterance.
@@ -100,6 +138,7 @@ impl Side for Book<'_> {
             self.met.add("refused call, then an accepted one", self.refused && accepted);
             self.refused = !accepted;
             self.stops |= expected.met.contains(&"stop: earlier lines in the spare");
+            self.follow(act, &outcome.answer)?;
             if accepted {
                 self.take(act)?;
             }
@@ -128,6 +167,13 @@ impl Side for Book<'_> {
         Ok((Answer::accepted(0, phones.len()), phones))
     }
 }
+
+/// What a second step met, and what met the two of them.
+pub const STEPS: &[Rows] = &[
+    &["accept: right away", "accept: behind a preview", "accept: behind another preview"],
+    &["accept: a refusal since the preview", "12: behind a stop", "12: behind an add entry"],
+    &["12: behind add text", "12: behind an accept", "word between the two steps"],
+];
 
 rows! { pub ROWS:
     /// What a word has that is said, accepted or refused.

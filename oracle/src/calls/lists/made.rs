@@ -22,9 +22,13 @@ pub fn list(random: &mut Random, sources: &Sources, phones: &Rc<Phones>) -> Inpu
         false => vec![random.byte() * random.below(2) as u8; len],
     };
     let pool = Pool::new(random, sources, phones);
+    let weights = match random.once_in(2) {
+        true => [8, 2, 1, 1, 5, 5],
+        false => [10, 4, 2, 1, 0, 0],
+    };
     let breaks = random.once_in(6);
     let (store, sheet) = (bytes(random, SLOT * slots), bytes(random, len));
-    let step = |_| Step { act: pool.act(random), broken: breaks && random.once_in(4) };
+    let step = |_| Step { act: pool.act(random, &weights), broken: breaks && random.once_in(4) };
     let steps = (0..steps).map(step).collect();
     Input { store, sheet, steps, ..sources.0.clone() }
 }
@@ -77,10 +81,11 @@ impl Pool<'_> {
         Pool { few, tags, all_words, adds }
     }
 
-    fn act(&self, random: &mut Random) -> Act {
+    /// A call, each kind as often as its weight says.
+    fn act(&self, random: &mut Random, weights: &[usize; 6]) -> Act {
         let adding::Pool { words, phones, .. } = &self.adds;
         let tag = self.tags[random.below(self.tags.len())].clone();
-        match random.weighted(&[10, 4, 2, 1]) {
+        match random.weighted(weights) {
             0 => {
                 let word = match self.few && !random.once_in(8) {
                     true => words[random.below(words.len())].clone(),
@@ -103,7 +108,9 @@ impl Pool<'_> {
                 fill: random.byte(),
                 spare: random.once_in(20).then(|| SLOT * random.below(4) + random.below(2)),
             },
-            _ => Act::NewSheet,
+            3 => Act::NewSheet,
+            4 => Act::Preview(self.adds.text(random, 32)),
+            _ => Act::Accept,
         }
     }
 }

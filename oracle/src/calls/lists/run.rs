@@ -2,7 +2,8 @@
 
 use super::state::State;
 use super::{Act, Input, Step};
-use crate::calls::{add_entries, add_entry, new_sheet, new_store, phone_string, say_word};
+use crate::calls::{accept_entries, add_entries, add_entry, filling, new_sheet, new_store};
+use crate::calls::{phone_string, preview_entries, say_word};
 use crate::prelude::*;
 
 /// More bytes than the phones of any sheet have, in a row.
@@ -24,6 +25,7 @@ pub trait Side {
 pub fn run<S: Side>(input: &Input, side: &mut S) -> Result<Vec<u8>, String> {
     let mut state = State::default();
     state.call::<new_store::NewStore>(side, None, &new_store::Input::new(input.store.clone()))?;
+    state.spare = state.store.clone();
     state.call::<new_sheet::NewSheet>(side, None, &new_sheet::Input::new(input.sheet.clone()))?;
     for step in &input.steps {
         make(input, step, &mut state, side)?;
@@ -49,9 +51,21 @@ fn make<S: Side>(input: &Input, step: &Step, on: &mut State, side: &mut S) -> Re
             on.call::<add_entry::AddEntry>(side, act, &input)
         }
         Act::AddText { text, fill, spare } => {
-            let spare = vec![*fill; spare.unwrap_or(on.store.len())];
-            let input = add_entries::Input { scene: scene(&lent.table), spare, text: text.clone() };
+            let spare = match input.keeps_spare() {
+                true => on.spare.clone(),
+                false => vec![*fill; spare.unwrap_or(on.store.len())],
+            };
+            let input = filling::Input { scene: scene(&lent.table), spare, text: text.clone() };
             on.call::<add_entries::AddEntries>(side, act, &input)
+        }
+        Act::Preview(text) => {
+            let (scene, spare) = (scene(&lent.table), on.spare.clone());
+            let input = filling::Input { scene, spare, text: text.clone() };
+            on.call::<preview_entries::PreviewEntries>(side, act, &input)
+        }
+        Act::Accept => {
+            let input = accept_entries::Input { store: on.store.clone(), spare: on.spare.clone() };
+            on.call::<accept_entries::AcceptEntries>(side, act, &input)
         }
         Act::SayWord(wanted) => {
             let (scene, trees) = (scene(&lent.lexicon), lent.trees.clone());

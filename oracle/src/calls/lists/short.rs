@@ -1,4 +1,4 @@
-//! The short lists: every list of up to four calls over a few of them.
+//! The short lists: every list of up to four calls over a few of them, and over a few with both steps.
 
 use super::{Act, Input, Sections, Step};
 use crate::lexicon_edges::row;
@@ -10,13 +10,16 @@ fn say(word: &str, tag: &str) -> Act {
     Act::SayWord(Wanted::new(word, tag))
 }
 
+fn text(text: &str) -> Act {
+    Act::AddText { text: text.into(), fill: 0x9e, spare: None }
+}
+
 fn add(word: &str, tag: &str, phones: &str) -> Act {
     Act::AddEntry(store_edges::add(word, tag, phones))
 }
 
 /// One call of each answer, and words that the others change.
 fn calls() -> [Step; 10] {
-    let text = |text: &str| Act::AddText { text: text.into(), fill: 0x9e, spare: None };
     let acts = [
         Act::NewSheet,
         say("a", ""),
@@ -35,6 +38,22 @@ fn calls() -> [Step; 10] {
 /// Words with "#" that tell a place, until they are added; one of the addenda.
 fn marked() -> [Step; 5] {
     let acts = [Act::NewSheet, say("a#B", ""), say("#", "n"), add("A#b", "", "s"), say("b##", "v")];
+    acts.map(|act| Step { act, broken: false })
+}
+
+/// Both steps, with what comes between them: another first step, one that stops, one that is refused as a whole, adds.
+fn halves() -> [Step; 8] {
+    let preview = |text: &[u8]| Act::Preview(text.into());
+    let acts = [
+        preview(b"a:k\nb n:ey1 ax0"),
+        Act::Accept,
+        say("a", ""),
+        add("A", "", "s"),
+        preview(b"A:t\na:"),
+        preview(b"a:ey1\n:"),
+        preview(b"a:\x80"),
+        text("b v:t"),
+    ];
     acts.map(|act| Step { act, broken: false })
 }
 
@@ -72,6 +91,8 @@ pub fn inputs() -> Vec<Input> {
     broken[2].broken = true;
     broken[3].broken = true;
     let marked = words::every(&marked(), 4).into_iter().map(|steps| list(steps, 2, 40 * ITEM));
+    let halves = words::every(&halves(), 4).into_iter().enumerate();
+    let halves = halves.map(|(i, steps)| list(steps, [3, 2, 1][i % 3], 40 * ITEM));
     let ends = [list(steps(&full), 1, LARGEST), list(broken, 4, 40 * ITEM)];
-    [every, lengths, ends.into(), marked.collect()].concat()
+    [every, lengths, ends.into(), marked.collect(), halves.collect()].concat()
 }

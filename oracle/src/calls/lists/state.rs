@@ -10,6 +10,7 @@ use crate::spoken::{Syllable, Word};
 #[derive(Default)]
 pub struct State {
     pub store: Vec<u8>,
+    pub spare: Vec<u8>,
     pub sheet: Vec<u8>,
     pub log: Vec<u8>,
     /// How many calls of the list were made.
@@ -36,7 +37,7 @@ impl State {
             match part.name {
                 "the store" => self.store = bytes,
                 "the sheet" => self.sheet = bytes,
-                "the spare" => {}
+                "the spare" => self.spare = bytes,
                 other => unreachable!("no call of a list writes {other}"),
             }
         }

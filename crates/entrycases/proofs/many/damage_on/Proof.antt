@@ -27,6 +27,9 @@ loop-holds c = search needs
 flipped-requires : tie.Need-flipped-requires Inv-loop μ-loop
 flipped-requires c κs = search needs
 
+wanted-requires : tie.Need-wanted-requires Inv-loop μ-loop
+wanted-requires c κs = search needs
+
 same-length : tie.Need-same-length Inv-loop μ-loop
 same-length c = search needs
 
@@ -59,6 +62,7 @@ damage-on-spec =
     returns
     loop-holds
     flipped-requires
+    wanted-requires
     same-length
     returns-2
     add-k

@@ -1,4 +1,4 @@
-//! The short inputs of add_entries.
+//! The short inputs of add_entries and its first step.
 
 use super::Input;
 use crate::calls::adding::table;
@@ -55,7 +55,7 @@ fn limits() -> String {
 }
 
 /// Tables, stores, spares and texts at 01's limits, and just past them.
-fn edges() -> Vec<Input> {
+pub fn edges() -> Vec<Input> {
     let limits = limits();
     let texts = limits.split('|');
     let plain = Scene::of(Lexicon::of(&["q"], &[]), vec![]);
@@ -74,7 +74,9 @@ fn edges() -> Vec<Input> {
     let odd = texts.map(|text| input(&odd, text)).collect();
     let tables = each! {
         for lexicon in lexicon_edges::limits();
-        [input(&table(&lexicon, store_edges::good()), "a: k\nb: p")]
+        let scenes = [store_edges::good(), vec![1; 512]].map(|store| table(&lexicon, store));
+        let other = Input { spare: vec![], ..input(&scenes[0], "a: k") };
+        scenes.map(|scene| input(&scene, "a: k\nb: p")).into_iter().chain([other])
     };
     [stores, odd, tables].concat()
 }

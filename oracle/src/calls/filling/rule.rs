@@ -1,17 +1,22 @@
-//! What 01 and the original make of a text.
+//! What the papers and the original make of a text.
 
 use super::Input;
 use crate::lines::{Fields, Line};
 use crate::prelude::*;
 
-/// The refusal that 01 gives before a line is looked at, if it gives one. Tells what made it.
-pub fn refusal(input: &Input, met: &mut Met) -> Result<(), u32> {
-    let scene = &input.scene;
-    let other = input.spare.len() != scene.store.len();
+/// The refusal that the papers give before a line is looked at, if they give one; 12 of a call that raises the count.
+/// Tells what made it, and what is amiss beside.
+pub fn refusal(input: &Input, raises: bool, met: &mut Met) -> Result<(), u32> {
+    barred(input, raises, met).inspect_err(|refusal| met.shared(beside(*refusal, input)))
+}
+
+fn barred(input: &Input, raises: bool, met: &mut Met) -> Result<(), u32> {
+    let Input { scene, spare, text } = input;
     met.refuse(1, scene.lexicon.names.is_none(), || None)?;
     met.sound(&scene.entries)?;
-    met.refuse(2, other, || ["spare of another length"])?;
-    met.refuse(3, !input.text.is_ascii(), || of_high(&input.text))
+    met.refuse(2, spare.len() != scene.store.len(), || ["spare of another length"])?;
+    met.refuse(12, raises && stores::is_spent(&scene.store), || None)?;
+    met.refuse(3, !text.is_ascii(), || of_high(text))
 }
 
 /// Whether a line names no entry, though it should.
@@ -27,6 +32,8 @@ type Why = Vec<&'static str>;
 pub struct Taken {
     /// The keys of the lines taken.
     pub keys: Vec<Key>,
+    /// How many of these lines replaced an entry, an earlier line's included.
+    replaced: usize,
     /// Where these lines end.
     end: usize,
     /// The refusal of the first faulty line, and its number.
@@ -34,7 +41,7 @@ pub struct Taken {
 }
 
 /// Goes through the lines by 01's rule, up to the first faulty one. Tells what they met.
-pub fn taken(input: &Input, met: &mut Met) -> Taken {
+fn taken(input: &Input, met: &mut Met) -> Taken {
     let room = stores::room(&input.scene.store);
     let before = input.scene.keys();
     let mut known = before.clone();
@@ -57,6 +64,7 @@ pub fn taken(input: &Input, met: &mut Met) -> Taken {
                     met.once(of_fields(line, &fields));
                     met.once(of_key(&key, &taken.keys, &before, takes_last));
                     known.extend(is_new.then(|| key.clone()));
+                    taken.replaced += usize::from(!is_new);
                     taken.keys.push(key);
                 }
                 fault
@@ -86,9 +94,55 @@ fn faulty(lexicon: &Lexicon, fields: &Fields, full: Option<Why>) -> Option<(u32,
     }
 }
 
-/// The store after the lines that 01 takes, by the original's list. It must count as many lines, or stop at
-/// the same one, where it has that refusal.
-pub fn beside_the_original(input: &Input, taken: &Taken) -> Result<Vec<u8>, String> {
+/// What a text makes of its store.
+pub struct Filled {
+    pub taken: Taken,
+    /// The store with the lines taken, its count as it was.
+    pub store: Vec<u8>,
+    /// How many slots are newly used.
+    newly: usize,
+}
+
+impl Filled {
+    /// This answer, or the refusal of a faulty line.
+    pub fn answer(&self, accepted: Answer) -> Answer {
+        let refused = |(refusal, line)| Answer::refused(refusal, line);
+        self.taken.fault.map_or(accepted, refused)
+    }
+
+    /// The lines taken, the slots newly used, the lines that replaced an entry.
+    pub fn numbers(&self) -> Answer {
+        let Taken { keys, replaced, .. } = &self.taken;
+        Answer::accepted(0, keys.len()).and(self.newly).and_third(*replaced)
+    }
+
+    /// The spare, which carries the count seen; where a line stopped the others, the largest.
+    pub fn spare(&self) -> Vec<u8> {
+        match self.taken.fault {
+            None => self.store.clone(),
+            Some(_) => stores::with_count(&self.store, u64::MAX),
+        }
+    }
+
+    pub fn row(&self) -> &'static str {
+        TAKEN[self.taken.keys.len().min(2)]
+    }
+}
+
+/// Fills the spare by the papers and the original. Tells what the text met.
+pub fn filled(input: &Input, met: &mut Met) -> Result<Filled, String> {
+    let taken = taken(input, met);
+    let (store, newly) = beside_the_original(input, &taken)?;
+    let filled = Filled { taken, store, newly };
+    met.all(of_text(&input.text, &filled.taken));
+    met.shared(of_numbers(&filled, &input.scene));
+    met.shared(store_edges::features(&input.scene.store, input.scene.entries()));
+    Ok(filled)
+}
+
+/// The store after the lines that 01 takes, by the original's list, and how many slots are newly used. The original
+/// must count as many lines, or stop at the same one, where it has that refusal.
+fn beside_the_original(input: &Input, taken: &Taken) -> Result<(Vec<u8>, usize), String> {
     let scene = &input.scene;
     let asked = |text: &[u8]| ask(|| scene.changed(|lexicon| lexicon.add_entries(ascii(text))));
     let (told, list) = asked(&input.text[..taken.end])?;
@@ -107,7 +161,51 @@ pub fn beside_the_original(input: &Input, taken: &Taken) -> Result<Vec<u8>, Stri
             return Err(format!("the original stops at {stop:?}, or alters its list"));
         }
     }
-    scene.store_of(&taken.keys, &list)
+    let newly = list.len() - scene.entries().len();
+    if newly + taken.replaced != taken.keys.len() {
+        return Err(format!("the original has {newly} entries more"));
+    }
+    Ok((scene.store_of(&taken.keys, &list)?, newly))
+}
+
+/// The answers of a text that is accepted.
+pub const TAKEN: Rows = &["lines taken 0", "lines taken 1", "lines taken 2 and more"];
+
+rows! { pub RANKS:
+    /// What a refusal before the lines goes before.
+    beside(refusal: u32, input: &Input) {
+        let Input { scene, spare, text } = input;
+        let other = spare.len() != scene.store.len();
+        let first = text.split(|b| *b == b'\n').next().unwrap_or_default();
+    } [
+        "1: and an unsound store" => refusal == 1 && scene.entries.is_err(),
+        "1: and a spare of another length" => refusal == 1 && other,
+        "2: and a high byte in the text" => refusal == 2 && !text.is_ascii(),
+        "2: and the largest count" => refusal == 2 && stores::is_spent(&scene.store),
+        "12: and a high byte in the text" => refusal == 12 && !text.is_ascii(),
+        "12: and a faulty line" => refusal == 12 && is_malformed(first),
+    ]
+}
+
+rows! { pub NUMBERS:
+    /// What the numbers tell of a text that is accepted, and the count of its store.
+    of_numbers(filled: &Filled, scene: &Scene) {
+        let Filled { taken: Taken { keys, replaced, fault, .. }, newly, .. } = filled;
+        let (new, old) = (*newly > 0 && fault.is_none(), *replaced > 0 && fault.is_none());
+        let mut later = (1..).zip(keys);
+        let again = old && later.any(|(i, key)| keys[i..].contains(key));
+        let of_store = old && scene.keys().iter().any(|key| keys.contains(key));
+        let spent = stores::is_spent(&scene.store);
+    } [
+        "new slots alone" => new && !old,
+        "replaced entries alone" => old && !new,
+        "new slots and replaced entries" => new && old,
+        "replaced: the store's alone" => of_store && !again,
+        "replaced: an earlier line's alone" => again && !of_store,
+        "replaced: both" => again && of_store,
+        "largest count: accepted" => spent && fault.is_none(),
+        "largest count: stop" => spent && fault.is_some(),
+    ]
 }
 
 rows! { pub ROWS:
