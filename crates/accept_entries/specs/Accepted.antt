@@ -25,6 +25,7 @@ accept-law store spare h =
     (λ t. cases (eqb (count spare) (count store))
     (λ q. cases (eqb (count store) largest)
     (λ r. absurd (omega (arith, (rw (t, q, r) at h))))
-    (λ r. record { sound = sound spare (both-true (isSound store && eqb (length spare) (length store)) (isSound spare) t .1); seen = eqb-true (count spare) (count store) q; rises = r }))
+    (λ r. let z = both-true (isSound store && eqb (length spare) (length store)) (isSound spare) t .1 in
+    record { sound = sound spare z; seen = eqb-true (count spare) (count store) q; rises = r }))
     (λ q. absurd (omega (arith, (rw (t, q) at h)))))
     (λ t. absurd (omega (arith, (rw t at h))))

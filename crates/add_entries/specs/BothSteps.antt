@@ -71,14 +71,15 @@ both-steps table store spare text h = go (ends table store spare text)
     go (stopped e s p) = let z = eq-eqb (addEntries table store spare text .refusal) 0 h in never (eqb (addEntries table store spare text .refusal) 0) z e
     go (unread e s p) = let z = eq-eqb (addEntries table store spare text .refusal) 0 h in never (eqb (addEntries table store spare text .refusal) 0) z e
 
-pub steps-both : (table store spare text : List ℕ) → previewEntries table store spare text .refusal ≡ 0 → acceptEntries store (sparePreviewed table store spare text) .refusal ≡ 0
-    → addEntries table store spare text .refusal ≡ 0
+pub steps-both : (table store spare text : List ℕ) → previewEntries table store spare text .refusal ≡ 0
+    → acceptEntries store (sparePreviewed table store spare text) .refusal ≡ 0 → addEntries table store spare text .refusal ≡ 0
 unfolding previewEntries toldFilled
 steps-both table store spare text h k =
     cases (eqb (barredFirst table store spare text) 0)
     (λ o. let r = readFirst table store spare text (eqb-true (barredFirst table store spare text) 0 o) in
     let f = accept-law store (sparePreviewed table store spare text) k in
-    let z : addEntries table store spare text ≡ textFilled table store text .answer = unfold addEntries barred in rw (r .tabled, r .stored, r .alike, f .rises, r .low) in
+    let z : addEntries table store spare text ≡ textFilled table store text .answer =
+    unfold addEntries barred in rw (r .tabled, r .stored, r .alike, f .rises, r .low) in
     cases (eqb (textFilled table store text .answer .refusal) 0)
     (λ e. ap (λ (a : Answer). a .refusal) z ∙ eqb-true (textFilled table store text .answer .refusal) 0 e)
     (λ e. absurd (eqb-false (textFilled table store text .answer .refusal) 0 e (rw (o, e) at h))))

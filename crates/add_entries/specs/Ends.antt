@@ -53,8 +53,10 @@ module _ (table store spare text : List ℕ) where
   -- how add text ends
   pub data Ends : Type 0 where
     whole : addEntries table store spare text .refusal ≡ 0 → Taken table store spare text → Ends
-    stopped : eqb (addEntries table store spare text .refusal) 0 ≡ false → storeAfter table store spare text ≡ store → Stopped store (spareAfter table store spare text) → Ends
-    unread : eqb (addEntries table store spare text .refusal) 0 ≡ false → storeAfter table store spare text ≡ store → spareAfter table store spare text ≡ spare → Ends
+    stopped : eqb (addEntries table store spare text .refusal) 0 ≡ false → storeAfter table store spare text ≡ store
+        → Stopped store (spareAfter table store spare text) → Ends
+    unread : eqb (addEntries table store spare text .refusal) 0 ≡ false → storeAfter table store spare text ≡ store
+        → spareAfter table store spare text ≡ spare → Ends
 
   pub ends : Ends
   unfolding addEntries storeAfter spareAfter spareFilled
@@ -63,7 +65,8 @@ module _ (table store spare text : List ℕ) where
       (λ o. let r = read (eqb-true (barred table store spare text) 0 o) in
       cases (eqb (textFilled table store text .answer .refusal) 0)
       (λ f. let z = eqb-true (textFilled table store text .answer .refusal) 0 f in
-      whole (rw o z) (record { tests = r; clean = z; grown = text-grown table store text (r .tabled) (r .stored) (r .low) z; storeIs = rw (o, f); spareIs = rw (o, f) }))
+      let g = text-grown table store text (r .tabled) (r .stored) (r .low) z in
+      whole (rw o z) (record { tests = r; clean = z; grown = g; storeIs = rw (o, f); spareIs = rw (o, f) }))
       (λ f. let z = stop-law table store 1 0 (lines text) (r .tabled) (sound store (r .stored)) (ascii-lines text (r .low)) in
       stopped (rw (o, f)) (rw (o, f)) (rw (o, f) z)))
       (λ o. unread (rw o o) (rw (o, o)) (rw o))

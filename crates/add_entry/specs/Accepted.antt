@@ -45,12 +45,15 @@ module _ (table store word tag phones : List ℕ) where
   pub taken : addEntry table store word tag phones ≡ accepted 0 0 → Taken table store word tag phones
   unfolding addEntry
   taken h =
-      cases (isPhoneTable table) (λ t₁. cases (isSound store) (λ t₂. cases (eqb (count store) largest) (λ t₁₂. never-accepted Count 0 0 0 (rw (t₁, t₂, t₁₂) at h)) (λ t₁₂. cases (isWord word && isWord tag && asciiPhones phones) (λ t₃.
+      cases (isPhoneTable table) (λ t₁. cases (isSound store) (λ t₂. cases (eqb (count store) largest)
+      (λ t₁₂. never-accepted Count 0 0 0 (rw (t₁, t₂, t₁₂) at h))
+      (λ t₁₂. cases (isWord word && isWord tag && asciiPhones phones) (λ t₃.
       cases (mayAddAll table phones) (λ t₅. cases (ltb 24 (length phones / 16))
       (λ t₇. never-accepted Phones 0 0 0 (rw (t₁, t₂, t₁₂, t₃, t₅, t₇) at h))
       (λ t₇. cases (isFull store (newEntry word tag phones))
       (λ t₈. never-accepted Full 0 0 0 (rw (t₁, t₂, t₁₂, t₃, t₅, t₇, t₈) at h))
-      (λ t₈. record { tabled = t₁; stored = sound store t₂; rises = t₁₂; fits = new-fits word tag phones t₃ (ltb-false 24 (length phones / 16) t₇); free = t₈ })))
+      (λ t₈. let f = new-fits word tag phones t₃ (ltb-false 24 (length phones / 16) t₇) in
+      record { tabled = t₁; stored = sound store t₂; rises = t₁₂; fits = f; free = t₈ })))
       (λ t₅. never-accepted UnknownPhone 0 0 0 (rw (t₁, t₂, t₁₂, t₃, t₅) at h)))
       (λ t₃. never-accepted Text 0 0 0 (rw (t₁, t₂, t₁₂, t₃) at h))))
       (λ t₂. never-accepted Unsound 0 0 0 (rw (t₁, t₂) at h)))
@@ -60,7 +63,9 @@ module _ (table store word tag phones : List ℕ) where
   pub accepted-is : addEntry table store word tag phones .refusal ≡ 0 → addEntry table store word tag phones ≡ accepted 0 0
   unfolding addEntry
   accepted-is h =
-      cases (isPhoneTable table) (λ t₁. cases (isSound store) (λ t₂. cases (eqb (count store) largest) (λ t₁₂. absurd (omega (arith, (rw (t₁, t₂, t₁₂) at h)))) (λ t₁₂. cases (isWord word && isWord tag && asciiPhones phones) (λ t₃.
+      cases (isPhoneTable table) (λ t₁. cases (isSound store) (λ t₂. cases (eqb (count store) largest)
+      (λ t₁₂. absurd (omega (arith, (rw (t₁, t₂, t₁₂) at h))))
+      (λ t₁₂. cases (isWord word && isWord tag && asciiPhones phones) (λ t₃.
       cases (mayAddAll table phones) (λ t₅. cases (ltb 24 (length phones / 16))
       (λ t₇. absurd (omega (arith, (rw (t₁, t₂, t₁₂, t₃, t₅, t₇) at h))))
       (λ t₇. cases (isFull store (newEntry word tag phones))

@@ -2,13 +2,12 @@
 ghost use mathlib.Core.Path.{_≡_};
 ghost use mathlib.Core.Logic.{_≢_};
 ghost use mathlib.Core.Bool.{true};
-ghost use Prim.Native.Nat.{_+_};
 ghost use lib.ListN.{length};
 ghost use Rattle.texts.specs.Text.{ascii};
 ghost use Rattle.data.specs.Sections.{isPhoneTable};
-ghost use Rattle.store_spec.specs.Store.{isSound, count as countOf, withCount, largest as largestCount};
-ghost use Rattle.answers.specs.Told.{toldLines, toldPreviewed, written};
-ghost use Rattle.addtext_spec.specs.Filling.{textFilled, spareFilled, toldFilled};
+ghost use Rattle.store_spec.specs.Store.{isSound, count as countOf, largest as largestCount};
+ghost use Rattle.answers.specs.Told.{toldLines, toldPreviewed};
+ghost use Rattle.addtext_spec.specs.Filling.{textFilled, spareFilled, storeFilled, toldFilled};
 use addtext_spec::Outcome;
 use answers::Lines;
 use answers::Previewed;
@@ -75,7 +74,7 @@ pub fn fill_and_tell(table: &[u8], store: &[u8], spare: &mut [u8], text: &[u8]) 
 pub fn fill_and_take(table: &[u8], store: &mut [u8], spare: &mut [u8], text: &[u8]) -> Lines
     requires { ⌜ (isPhoneTable (now table) ≡ true) × (isSound (now store) ≡ true) × (length (now spare) ≡ length (now store)) × (countOf (now store) ≢ largestCount) × (ascii (now text) ≡ true) ⌝ }
     ensures { λ r. ⌜ toldLines r ≡ textFilled (now (table .entry)) (now (store .entry)) (now (text .entry)) .answer ⌝ }
-    ensures { λ _. ⌜ now (store .exit) ≡ written (textFilled (now (table .entry)) (now (store .entry)) (now (text .entry)) .answer) (now (store .entry)) (withCount (textFilled (now (table .entry)) (now (store .entry)) (now (text .entry)) .store) (countOf (now (store .entry)) + 1)) ⌝ }
+    ensures { λ _. ⌜ now (store .exit) ≡ storeFilled (now (store .entry)) (textFilled (now (table .entry)) (now (store .entry)) (now (text .entry))) ⌝ }
     ensures { λ _. ⌜ now (spare .exit) ≡ spareFilled (textFilled (now (table .entry)) (now (store .entry)) (now (text .entry))) ⌝ }
 {
     match fill_spare(table, store, spare, text) {

@@ -7,10 +7,10 @@ use Rattle.texts.specs.Choice.{if_then_else_, bit}
 use Rattle.texts.specs.Lists.{some}
 use Rattle.lines.specs.Lines.{lines}
 use Rattle.slots_spec.specs.Slot.{Entry}
-use Rattle.store_spec.specs.Store.{used, entries, sameKey, withCount, largest}
+use Rattle.store_spec.specs.Store.{used, entries, sameKey, count, withCount, largest}
 use Rattle.store_spec.specs.Adding.{adding}
 use Rattle.answers.specs.declared.Answer.{Answer}
-use Rattle.answers.specs.Told.{refusalNumber, refused, accepted, acceptedWith}
+use Rattle.answers.specs.Told.{refusalNumber, refused, accepted, acceptedWith, written}
 use Rattle.addtext_spec.specs.Line.{Line, skipped, faulty, entry, readLine, lineEntry, outcome, behindLine}
 use Rattle.addtext_spec.specs.declared.Outcome.{Outcome}
 use Rattle.addtext_spec.specs.declared.Outcome.the-variants.{Skipped, Taken, Refused}
@@ -59,6 +59,10 @@ replacing (e ∷ more) es = bit (some (sameKey e) es) + replacing more (adding e
 -- the spare behind the lines carries the count seen; where one stopped them, the largest (02, S-2)
 unfoldable pub spareFilled : Filled → List ℕ
 spareFilled f = if eqb (f .answer .refusal) 0 then f .store else withCount (f .store) largest
+
+-- the store behind a text: all lines, and the count one higher, or as it was where one stopped them (02, S-2)
+abbrev pub storeFilled : List ℕ → Filled → List ℕ
+storeFilled store f = written (f .answer) store (withCount (f .store) (count store + 1))
 
 -- what is told of a text that came so far: how many lines were taken, how many slots are newly used, how many lines replaced an entry (02, S-2)
 unfoldable pub toldFilled : List ℕ → List ℕ → Filled → Answer

@@ -115,7 +115,13 @@ pub record Grown (b c : List ℕ) (es : List Entry) : Type 0 where
 -- behind an entry line that was taken
 grown-entry : (b c d : List ℕ) (e : Entry) (es : List Entry) → Added b c e → Grown c d es → Grown b d (e ∷ es)
 unfolding addingAll
-grown-entry b c d e es a g = record { sound = g .sound; entries = g .entries ∙ ap (addingAll es) (a .entries); length = g .length ∙ a .length; count = g .count ∙ count-same b c (a .head) }
+grown-entry b c d e es a g =
+    record {
+      sound = g .sound;
+      entries = g .entries ∙ ap (addingAll es) (a .entries);
+      length = g .length ∙ a .length;
+      count = g .count ∙ count-same b c (a .head);
+    }
 
 -- a line, and the lines behind it
 abbrev pub past : List ℕ → List ℕ → ℕ → ℕ → List (List ℕ) → Line → Filled
@@ -153,15 +159,18 @@ line-whole table store (entry word tag phones) t s h =
     (λ e k. let y = line-added table store word tag phones t s (h .0) (h .1) k in rw e (record { sound = y .sound; length = y .length }))
     (λ r e. rw e (record { sound = s; length = refl }))
 
-filled-whole : (table store : List ℕ) (n k : ℕ) (ls : List (List ℕ)) → isPhoneTable table ≡ true → Sound store → every ascii ls ≡ true → Whole store (filled table store n k ls .store)
+filled-whole : (table store : List ℕ) (n k : ℕ) (ls : List (List ℕ)) → isPhoneTable table ≡ true → Sound store → every ascii ls ≡ true
+    → Whole store (filled table store n k ls .store)
 unfolding filled every onward
 filled-whole table store n k [] t s a = record { sound = s; length = refl }
 filled-whole table store n k (l ∷ ls) t s a =
     let b = both-true (ascii l) (every ascii ls) a in
     let w = line-whole table store (readLine l) t s (low-line l (b .0)) in
-    go (behindLine table store (readLine l)) w (λ m. filled-whole table (behindLine table store (readLine l)) (n + 1) m ls t (w .sound) (b .1)) (outcome table store (readLine l))
+    let d = behindLine table store (readLine l) in
+    go d w (λ m. filled-whole table d (n + 1) m ls t (w .sound) (b .1)) (outcome table store (readLine l))
   where
-    go : (d : List ℕ) → Whole store d → ((m : ℕ) → Whole d (filled table d (n + 1) m ls .store)) → (o : Outcome) → Whole store (onward n k d (λ (m : ℕ). filled table d (n + 1) m ls) o .store)
+    go : (d : List ℕ) → Whole store d → ((m : ℕ) → Whole d (filled table d (n + 1) m ls .store)) → (o : Outcome)
+        → Whole store (onward n k d (λ (m : ℕ). filled table d (n + 1) m ls) o .store)
     go d w ih Skipped = record { sound = ih k .sound; length = ih k .length ∙ w .length }
     go d w ih Taken = record { sound = ih (k + 1) .sound; length = ih (k + 1) .length ∙ w .length }
     go d w ih (Refused r) = w

@@ -55,7 +55,7 @@ sourceNumber Runtime = 1
 sourceNumber Addenda = 2
 sourceNumber Compiled = 3
 
--- refused by a number, at a line (0 outside add text)
+-- refused by a number, at a line of a text (0 where none is at fault)
 abbrev pub refused : ℕ → ℕ → Answer
 refused n line = record { refusal = n; kind = 0; value = line; second = 0; third = 0 }
 

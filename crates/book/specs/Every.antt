@@ -1,4 +1,5 @@
--- 01, demand 3: one claim about every list of calls. The store that a list leaves holds the entries, and the sheet tells the words, of the book of what was accepted.
+-- 01, demand 3: one claim about every list of calls. The store that a list leaves holds the entries, and the sheet tells the words,
+-- of the book of what was accepted.
 -- Each call keeps store and sheet sound and in step with the book, and the spare with what it may be accepted as; a list of calls is its calls in turn.
 -- Assumes nothing.
 use Prim.Native.Nat.{ℕ, _+_, _≤_, _<_}
@@ -98,13 +99,22 @@ module _ (c : Sections) (s : State) (k : Book) (a : Agrees s k) where
   unfolding answer step accepts newSheet
   makes other =
       let l = a .sheet .size in
-      rw l (record { store = a .store; alike = a .alike; stand = a .stand; entries = a .entries; sheet = new-sound (s .sheet) l; words = new-reads (s .sheet) l; cut = tt })
+      rw l (record {
+        store = a .store;
+        alike = a .alike;
+        stand = a .stand;
+        entries = a .entries;
+        sheet = new-sound (s .sheet) l;
+        words = new-reads (s .sheet) l;
+        cut = tt;
+      })
 
   adds : (word tag cells : List ℕ) (other : Option (List ℕ)) → After (addsEntry word tag cells) other
   unfolding answer step accepts
   adds word tag cells other =
       cases (eqb (addEntry (c .lexPhones) (s .store) word tag cells .refusal) 0)
-      (λ e. let h = add-law (c .lexPhones) (s .store) word tag cells (accepted-is (c .lexPhones) (s .store) word tag cells (eqb-true (addEntry (c .lexPhones) (s .store) word tag cells .refusal) 0 e)) in
+      (λ e. let r = eqb-true (addEntry (c .lexPhones) (s .store) word tag cells .refusal) 0 e in
+      let h = add-law (c .lexPhones) (s .store) word tag cells (accepted-is (c .lexPhones) (s .store) word tag cells r) in
       let n = below (count (s .store)) (a .stand .bound) (h .rises) in
       rw e (record {
         store = h .sound;
@@ -144,7 +154,15 @@ module _ (c : Sections) (s : State) (k : Book) (a : Agrees s k) where
   -- a spare that was filled, by lines that are all taken or up to a stop
   halts : (spare : List ℕ) → length spare ≡ length (s .store) → count spare ≡ largest → Agrees (record { store = s .store; sheet = s .sheet; spare = spare }) k
   halts spare l e =
-      record { store = a .store; alike = l; stand = rw e (halted (count (s .store)) (count (s .spare)) (a .stand)); entries = a .entries; sheet = a .sheet; words = a .words; cut = a .cut }
+      record {
+        store = a .store;
+        alike = l;
+        stand = rw e (halted (count (s .store)) (count (s .spare)) (a .stand));
+        entries = a .entries;
+        sheet = a .sheet;
+        words = a .words;
+        cut = a .cut;
+      }
 
   texts : (text : List ℕ) (other : Option (List ℕ)) → After (addsText text) other
   unfolding answer step
@@ -154,13 +172,17 @@ module _ (c : Sections) (s : State) (k : Book) (a : Agrees s k) where
       go (textWhole e t) =
           let f = textFilled (c .lexPhones) (s .store) text .store in
           let g = t .grown in
-          rw (e, t .storeIs, t .spareIs) (text-beside text f g (t .tests .rises) (Unit {0}) f (g .length) (rw (g .count) (shown (count (s .store)) (count (s .spare)) (a .stand) tt)))
+          let w : Stand (count (s .store)) (count f) (Unit {0}) = rw (g .count) (shown (count (s .store)) (count (s .spare)) (a .stand) tt) in
+          rw (e, t .storeIs, t .spareIs) (text-beside text f g (t .tests .rises) (Unit {0}) f (g .length) w)
       go (textStopped e z p) = rw (e, z) (halts (spareAfterText (c .lexPhones) (s .store) (s .spare) text) (p .length) (p .count))
       go (textUnread e z p) = rw (e, z, p) a
   texts text (some other) = go (textEnds (c .lexPhones) (s .store) other text)
     where
       go : TextEnds (c .lexPhones) (s .store) other text → After (addsText text) (some other)
-      go (textWhole e t) = rw (e, t .storeIs) (text-beside text (textFilled (c .lexPhones) (s .store) text .store) (t .grown) (t .tests .rises) (entries (s .spare) ≡ addingAll (k .previewed) (k .entries)) (s .spare) (a .alike) (a .stand))
+      go (textWhole e t) =
+          rw (e, t .storeIs)
+          (text-beside text (textFilled (c .lexPhones) (s .store) text .store) (t .grown) (t .tests .rises)
+          (entries (s .spare) ≡ addingAll (k .previewed) (k .entries)) (s .spare) (a .alike) (a .stand))
       go (textStopped e z p) = rw (e, z) a
       go (textUnread e z p) = rw (e, z) a
 
@@ -170,10 +192,11 @@ module _ (c : Sections) (s : State) (k : Book) (a : Agrees s k) where
     where
       go : Ends (c .lexPhones) (s .store) (s .spare) text → After (previewsText text) other
       go (whole e g) =
+          let w = g .entries ∙ ap (λ (es : List Entry). addingAll (lineEntries (lines text)) es) (a .entries) in
           rw e (record {
             store = a .store;
             alike = g .length;
-            stand = rw (g .count) (shown (count (s .store)) (count (s .spare)) (a .stand) (g .entries ∙ ap (λ (es : List Entry). addingAll (lineEntries (lines text)) es) (a .entries)));
+            stand = rw (g .count) (shown (count (s .store)) (count (s .spare)) (a .stand) w);
             entries = a .entries;
             sheet = a .sheet;
             words = a .words;
@@ -191,7 +214,8 @@ module _ (c : Sections) (s : State) (k : Book) (a : Agrees s k) where
       let n = below (count (s .store)) (a .stand .bound) (t .rises) in
       let m = count (s .spare) + 1 in
       let q = t .seen in
-      let f : count (withCount (s .spare) m) ≡ count (s .store) + 1 = counted-count (s .spare) m (t .sound) (omega (arith, n .1, q)) ∙ ap (λ (x : ℕ). x + 1) q in
+      let f : count (withCount (s .spare) m) ≡ count (s .store) + 1 =
+      counted-count (s .spare) m (t .sound) (omega (arith, n .1, q)) ∙ ap (λ (x : ℕ). x + 1) q in
       rw (e, z) (record {
         store = counted (s .spare) m (t .sound);
         alike = sym (counted-length (s .spare) m);
@@ -205,16 +229,30 @@ module _ (c : Sections) (s : State) (k : Book) (a : Agrees s k) where
       rw (e, z) a)
 
   -- a word that was accepted, by what it came to
-  heard : (word tag : List ℕ) (p : Spoken) → pronounced c (entries (s .store)) word tag ≡ p → Passed c (s .store) (s .sheet) word tag → onSpokenAnswer (s .sheet) word p .refusal ≡ 0
-      → Agrees (record { store = s .store; sheet = withSpoken (s .sheet) word p; spare = s .spare }) (record { entries = k .entries; words = k .words ++ onSpoken c word p; previewed = k .previewed })
-  heard word tag (barred n) e t h = subst (λ (ws : List Word). Agrees (record { store = s .store; sheet = s .sheet; spare = s .spare }) (record { entries = k .entries; words = ws; previewed = k .previewed })) (sym (append-nil (k .words))) (record { store = a .store; alike = a .alike; stand = a .stand; entries = a .entries; sheet = a .sheet; words = a .words; cut = a .cut })
+  heard : (word tag : List ℕ) (p : Spoken) → pronounced c (entries (s .store)) word tag ≡ p → Passed c (s .store) (s .sheet) word tag
+      → onSpokenAnswer (s .sheet) word p .refusal ≡ 0
+      → Agrees (record { store = s .store; sheet = withSpoken (s .sheet) word p; spare = s .spare })
+      (record { entries = k .entries; words = k .words ++ onSpoken c word p; previewed = k .previewed })
+  heard word tag (barred n) e t h =
+      subst
+      (λ (ws : List Word). Agrees (record { store = s .store; sheet = s .sheet; spare = s .spare }) (record { entries = k .entries; words = ws; previewed = k .previewed }))
+      (sym (append-nil (k .words)))
+      (record { store = a .store; alike = a .alike; stand = a .stand; entries = a .entries; sheet = a .sheet; words = a .words; cut = a .cut })
   heard word tag (phones source place ps) e t h =
       cases (isCrowded (s .sheet) (said word ps))
       (λ f. absurd (omega (arith, (rw f at h))))
       (λ f. let p = pronounced-fits c (entries (s .store)) word tag (entries-fit (s .store) (a .store)) (t .lexicon) (t .trees) source place ps e in
       let may = (phones-said word ps (t .text) p) in
       let room = (leb-false (items (s .sheet)) (used (s .sheet) + size (said word ps)) f) in
-      record { store = a .store; alike = a .alike; stand = a .stand; entries = a .entries; sheet = append-law (s .sheet) (said word ps) (a .sheet) may room .sound; words = append-reads (s .sheet) (said word ps) (a .sheet) may room ∙ ap (λ (ws : List Word). ws ++ (said word ps ∷ [])) (a .words); cut = each-last WellCut (k .words) (said word ps) (a .cut) (said-cut word ps) })
+      record {
+        store = a .store;
+        alike = a .alike;
+        stand = a .stand;
+        entries = a .entries;
+        sheet = append-law (s .sheet) (said word ps) (a .sheet) may room .sound;
+        words = append-reads (s .sheet) (said word ps) (a .sheet) may room ∙ ap (λ (ws : List Word). ws ++ (said word ps ∷ [])) (a .words);
+        cut = each-last WellCut (k .words) (said word ps) (a .cut) (said-cut word ps);
+      })
 
   says : (word tag : List ℕ) (other : Option (List ℕ)) → After (saysWord word tag) other
   unfolding answer step accepts
@@ -243,13 +281,22 @@ in-turn : (c : Sections) (ms : List Made) (s : State) (k : Book) → Agrees s k 
 unfolding leaves keeps hears
 in-turn c [] s k a = a
 in-turn c (m ∷ ms) s k a =
-    in-turn c ms (step c (m .call) (m .other) s) (if isRefused c (m .call) (m .other) s then k else accepts c (m .call) k) (each-call c s k a (m .call) (m .other))
+    in-turn c ms (step c (m .call) (m .other) s) (if isRefused c (m .call) (m .other) s then k else accepts c (m .call) k)
+    (each-call c s k a (m .call) (m .other))
 
 begins : (store sheet : List ℕ) → isStoreLength (length store) ≡ true → isSheetLength (length sheet) ≡ true → Agrees (fresh store sheet) empty
 unfolding fresh empty
 begins store sheet l h =
     let z : newStoreBytes store ≡ freshStore store l = unfold newStoreBytes newStore in rw l in
-    rw z (record { store = fresh-sound store l; alike = refl; stand = rw (fresh-count store l) (begin (unfold addingAll in fresh-entries store l)); entries = fresh-entries store l; sheet = new-sound sheet h; words = new-reads sheet h; cut = tt })
+    rw z (record {
+      store = fresh-sound store l;
+      alike = refl;
+      stand = rw (fresh-count store l) (begin (unfold addingAll in fresh-entries store l));
+      entries = fresh-entries store l;
+      sheet = new-sound sheet h;
+      words = new-reads sheet h;
+      cut = tt;
+    })
 
 -- for every list of calls, every set of sections, and every store and sheet as new store and new sheet leave them, their other bytes
 -- arbitrary, with a spare equal to the store

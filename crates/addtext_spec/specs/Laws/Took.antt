@@ -58,12 +58,14 @@ replacing-few [] es = omega arith
 replacing-few (e ∷ more) es = let ih = replacing-few more (adding e es) in let b = bit-few (some (sameKey e) es) in omega (arith, ih, b)
 
 -- lines that are all taken tell how many entries they have
-all-taken : (table store : List ℕ) (n k : ℕ) (ls : List (List ℕ)) → filled table store n k ls .answer .refusal ≡ 0 → filled table store n k ls .answer .value ≡ k + length (lineEntries ls)
+all-taken : (table store : List ℕ) (n k : ℕ) (ls : List (List ℕ)) → filled table store n k ls .answer .refusal ≡ 0
+    → filled table store n k ls .answer .value ≡ k + length (lineEntries ls)
 unfolding filled lineEntries onward behindLine outcome entriesOf
 all-taken table store n k [] h = omega arith
 all-taken table store n k (l ∷ ls) h = behind (readLine l) (λ c m. all-taken table c (n + 1) m ls) h
   where
-    behind : (line : Line) → ((c : List ℕ) (m : ℕ) → filled table c (n + 1) m ls .answer .refusal ≡ 0 → filled table c (n + 1) m ls .answer .value ≡ m + length (lineEntries ls))
+    behind : (line : Line)
+        → ((c : List ℕ) (m : ℕ) → filled table c (n + 1) m ls .answer .refusal ≡ 0 → filled table c (n + 1) m ls .answer .value ≡ m + length (lineEntries ls))
         → past table store n k ls line .answer .refusal ≡ 0 → past table store n k ls line .answer .value ≡ k + length (entriesOf line ++ lineEntries ls)
     behind skipped ih h = ih store k h
     behind faulty ih h = absurd (omega (arith, h))
@@ -78,8 +80,11 @@ pub record Told (taken replaced before after : ℕ) : Type 0 where
   pub few : after - before ≤ taken
   pub rest : taken - (after - before) ≡ replaced
 
-module _ (table store : List ℕ) (ls : List (List ℕ)) (t : isPhoneTable table ≡ true) (s : Sound store) (a : every ascii ls ≡ true) (h : filled table store 1 0 ls .answer .refusal ≡ 0) where
-  pub numbers : Told (filled table store 1 0 ls .answer .value) (replacing (lineEntries ls) (entries store)) (used store) (used (filled table store 1 0 ls .store))
+module _ (table store : List ℕ) (ls : List (List ℕ)) (t : isPhoneTable table ≡ true) (s : Sound store) (a : every ascii ls ≡ true)
+    (h : filled table store 1 0 ls .answer .refusal ≡ 0) where
+  pub numbers :
+      Told (filled table store 1 0 ls .answer .value) (replacing (lineEntries ls) (entries store)) (used store)
+      (used (filled table store 1 0 ls .store))
   numbers =
       let g = all-added table t store 1 0 ls s a h in
       let d : keysDiffer (entries store) ≡ true = rw (entries-are store s) (s .keys) in

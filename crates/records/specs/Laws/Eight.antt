@@ -32,7 +32,8 @@ u16-put64 b k v j (inr h) = omega (arith, byte-put64 b k v j (inr (omega arith))
 low-kept : (b : List ℕ) (k v : ℕ) → u32At (put32 b (k + 4) v) k ≡ u32At b k
 unfolding u32At u16At
 low-kept b k v =
-    let s : (j : ℕ) → j < k + 4 → getD (put32 b (k + 4) v) j 0 ≡ getD b j 0 = λ j h. byte-put32 b (k + 4) v j (omega arith) (omega arith) (omega arith) (omega arith) in
+    let s : (j : ℕ) → j < k + 4 → getD (put32 b (k + 4) v) j 0 ≡ getD b j 0 =
+    λ j h. byte-put32 b (k + 4) v j (omega arith) (omega arith) (omega arith) (omega arith) in
     omega (arith, s k (omega arith), s (k + 1) (omega arith), s (k + 2) (omega arith), s (k + 2 + 1) (omega arith))
 
 pub u64-put-same : (b : List ℕ) (k v : ℕ) → k + 7 < length b → v < 18446744073709551616 → u64At (put64 b k v) k ≡ v

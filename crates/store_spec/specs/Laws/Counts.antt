@@ -41,7 +41,9 @@ module _ (b : List ℕ) (n : ℕ) where
 
   module _ (s : Sound b) where
     linked : Linked (next (withCount b n)) 0 (s .chained)
-    linked = frame (next b) (next (withCount b n)) 0 (s .chained) (with-next 0) (all-of (λ (x : ℕ). next (withCount b n) x ≡ next b x) (s .chained) with-next) (s .linked)
+    linked =
+        frame (next b) (next (withCount b n)) 0 (s .chained) (with-next 0)
+        (all-of (λ (x : ℕ). next (withCount b n) x ≡ next b x) (s .chained) with-next) (s .linked)
 
     each : All (Slot (withCount b n)) (s .chained)
     each =
@@ -49,7 +51,9 @@ module _ (b : List ℕ) (n : ℕ) where
         (λ m k. record { real = k .real; inside = rw with-used (k .inside); sound = rw (with-slot m (k .real)) (k .sound) }) (s .each)
 
     same-entries : map (entryAt (withCount b n)) (s .chained) ≡ map (entryAt b) (s .chained)
-    same-entries = map-kept b (withCount b n) (s .chained) (all-map (Slot b) _ (s .chained) (λ m k. kept-same b (withCount b n) m (with-slot m (k .real))) (s .each))
+    same-entries =
+        map-kept b (withCount b n) (s .chained)
+        (all-map (Slot b) _ (s .chained) (λ m k. kept-same b (withCount b n) m (with-slot m (k .real))) (s .each))
 
     pub counted : Sound (withCount b n)
     counted =
