@@ -74,6 +74,28 @@ impl Side for Lookup {
     }
 }
 
+/// Looks up each entry of a store by its own word and tag.
+pub struct LookupEntry {
+    pub tables: &'static Tables,
+    pub store: Vec<u8>,
+    pub entries: Vec<Entry>,
+    pub out: [u8; LIST],
+}
+
+impl Side for LookupEntry {
+    fn calls(&self) -> usize {
+        self.entries.len()
+    }
+
+    fn call(&mut self, i: usize) {
+        let entry = &self.entries[i];
+        let (word, tag) = (entry.word.as_bytes(), entry.tag.as_bytes());
+        let answer = ours::lookup(self.tables.lex(), &self.store, word, tag, &mut self.out);
+        debug_assert!(answer.kind == 1);
+        black_box(answer);
+    }
+}
+
 /// Adds that replace an entry, or are the only one of an empty store.
 pub struct AddEntry {
     pub tables: &'static Tables,
@@ -92,7 +114,7 @@ impl Side for AddEntry {
         let (entry, phones) = &self.entries[i];
         let (word, tag) = (entry.word.as_bytes(), entry.tag.as_bytes());
         let table = &self.tables.lex[0];
-        black_box(ours::add_entry(table, &mut self.store, word, tag, phones));
+        black_box(ours::add_entry(table, &mut self.store, word, tag, phones, entry.exact));
         if self.empty {
             // first, last and used
             self.store[..6].fill(0);

@@ -37,18 +37,18 @@ impl Lent for &mut [u8] {
     }
 }
 
-/// Functions of the library by their slices, those that are written with `mut`.
+/// Functions of the library by their slices, those that are written with `mut`, and by a yes or no behind them.
 macro_rules! library {
-    ($($name:ident = $function:ident($($slice:ident: $kind:ty),*);)*) => {
+    ($($name:ident = $function:ident($($slice:ident: $kind:ty),* $(; $whether:ident)?);)*) => {
         #[link(name = "pronouncer", kind = "static")]
         extern "C" {
-            $(fn $function($($slice: *mut u8, _: usize),*) -> Answer;)*
+            $(fn $function($($slice: *mut u8, _: usize,)* $($whether: bool)?) -> Answer;)*
         }
 
-        $(pub fn $name($($slice: $kind),*) -> Answer {
+        $(pub fn $name($($slice: $kind,)* $($whether: bool)?) -> Answer {
             $(let $slice = $slice.lent();)*
             // SAFETY: each pointer and length is a whole slice; the library writes only what is lent with `mut`.
-            unsafe { $function($($slice.0, $slice.1),*) }
+            unsafe { $function($($slice.0, $slice.1,)* $($whether)?) }
         })*
     };
 }
@@ -62,7 +62,9 @@ library! {
         phones: &[u8], index: &[u8], data: &[u8], store: &[u8], word: &[u8], tag: &[u8], out: &mut [u8]
     );
     new_store = pronouncer_new_store(store: &mut [u8]);
-    add_entry = pronouncer_add_entry(table: &[u8], store: &mut [u8], word: &[u8], tag: &[u8], phones: &[u8]);
+    add_entry = pronouncer_add_entry(
+        table: &[u8], store: &mut [u8], word: &[u8], tag: &[u8], phones: &[u8]; exact
+    );
     add_entries = pronouncer_add_entries(table: &[u8], store: &mut [u8], spare: &mut [u8], text: &[u8]);
     preview_entries = pronouncer_preview_entries(table: &[u8], store: &[u8], spare: &mut [u8], text: &[u8]);
     accept_entries = pronouncer_accept_entries(store: &mut [u8], spare: &[u8]);

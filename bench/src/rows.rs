@@ -43,58 +43,97 @@ const TAKINGS: [(Taking, &str); 4] = [
     (Taking::PreviewAndAccept, "preview and accept"),
 ];
 
+/// A row that is made of its sides.
+fn plan(
+    name: impl Into<String>,
+    unit: &'static str,
+    sides: impl Fn(&'static Tables) -> Sides + 'static,
+) -> Plan {
+    let name = name.into();
+    let row_name = name.clone();
+    let make = Box::new(move |tables: &'static Tables| {
+        let Sides { units, sides } = sides(tables);
+        Row { name: row_name.clone(), unit, units, sides }
+    });
+    Plan { name, make }
+}
+
 /// All rows.
 pub fn all() -> Vec<Plan> {
+    let mut plans = vec![
+        plan("predict", "words", predict),
+        plan("syllabify", "words", syllabify),
+        plan("is_sayable", "words", is_sayable),
+    ];
+    plans.extend(of_entries());
+    plans.extend(of_texts());
+    plans.extend(of_sheets());
+    plans.push(plan("check_lexicon", "entries", check_lexicon));
+    plans.extend(of_settings());
+    plans.extend(of_soundness());
+    plans
+}
+
+fn of_entries() -> Vec<Plan> {
     let mut plans = vec![];
-    let mut plan = |name: String, unit, sides: Box<dyn Fn(&'static Tables) -> Sides>| {
-        let row_name = name.clone();
-        let make = Box::new(move |tables: &'static Tables| {
-            let Sides { units, sides } = sides(tables);
-            Row { name: row_name.clone(), unit, units, sides }
-        });
-        plans.push(Plan { name, make });
-    };
-    plan("predict".into(), "words", Box::new(predict));
-    plan("syllabify".into(), "words", Box::new(syllabify));
-    plan("is_sayable".into(), "words", Box::new(is_sayable));
     for (fill, full) in FILLS {
         let name = format!("lookup, {full} store");
-        plan(name, "words", Box::new(move |t| lookup(t, fill)));
+        plans.push(plan(name, "words", move |t| lookup(t, fill)));
     }
+    plans.push(plan("lookup, ordinary entry, full store", "entries", |t| lookup_entry(t, false)));
+    plans.push(plan("lookup, exact entry, full store", "entries", |t| lookup_entry(t, true)));
+    plans.push(plan("lookup, other exact entries, full store", "words", lookup_others));
     for (fill, full) in FILLS {
         let name = format!("add_entry, {full} store");
-        plan(name, "entries", Box::new(move |t| add_entry(t, fill)));
+        plans.push(plan(name, "entries", move |t| add_entry(t, fill)));
     }
+    plans.push(plan("add_entry, exact entry, full store", "entries", add_exact));
+    plans
+}
+
+fn of_texts() -> Vec<Plan> {
+    let mut plans = vec![];
     for (taking, call) in TAKINGS {
         for (lines, (fill, full)) in TEXTS {
             let name = format!("{call}, {lines} lines, {full} store");
-            plan(name, "texts", Box::new(move |t| take_text(t, taking, lines, fill)));
+            plans.push(plan(name, "texts", move |t| take_text(t, taking, lines, fill)));
         }
     }
+    plans
+}
+
+fn of_sheets() -> Vec<Plan> {
+    let mut plans = vec![];
     for (store, store_full) in [FILLS[0], FILLS[2]] {
         for (sheet, full) in FILLS {
             let name = format!("say_word, {full} sheet, {store_full} store");
-            plan(name, "words", Box::new(move |t| say_word(t, sheet, store)));
+            plans.push(plan(name, "words", move |t| say_word(t, sheet, store)));
         }
     }
     for (sheet, full) in FILLS {
         let name = format!("phone_string, {full} sheet");
-        plan(name, "strings", Box::new(move |t| phone_string(t, sheet)));
+        plans.push(plan(name, "strings", move |t| phone_string(t, sheet)));
     }
-    plan("check_lexicon".into(), "entries", Box::new(check_lexicon));
-    for (records, name) in [(3, "three records"), (2047, "2,047 records")] {
-        let name = format!("read_settings, {name}");
-        plan(name, "calls", Box::new(move |_| read_settings(records)));
-    }
-    plan("write_setting, three records".into(), "calls", Box::new(|_| write_setting(3)));
+    plans
+}
+
+fn of_settings() -> Vec<Plan> {
+    vec![
+        plan("read_settings, three records", "calls", |_| read_settings(3)),
+        plan("read_settings, 2,047 records", "calls", |_| read_settings(2047)),
+        plan("write_setting, three records", "calls", |_| write_setting(3)),
+    ]
+}
+
+fn of_soundness() -> Vec<Plan> {
+    let mut plans = vec![];
     for (fill, full) in FILLS {
         let name = format!("soundness alone, {full} store");
-        plan(name, "calls", Box::new(move |t| decide(t, fill, None)));
+        plans.push(plan(name, "calls", move |t| decide(t, fill, None)));
     }
     for (fill, full) in [FILLS[0], FILLS[2]] {
         let name = format!("soundness alone, {full} sheet and empty store");
-        let sides = move |t| decide(t, Fill::Empty, Some(fill));
-        plan(name, "calls", Box::new(sides));
+        plans.push(plan(name, "calls", move |t| decide(t, Fill::Empty, Some(fill))));
     }
     plans
 }
@@ -163,6 +202,21 @@ fn lookup(tables: &'static Tables, fill: Fill) -> Sides {
     sides
 }
 
+/// Entries, exact or ordinary, that are found. The original has no exact ones, and is not asked about these.
+fn lookup_entry(tables: &'static Tables, exact: bool) -> Sides {
+    let entries = stage::entries(tables, Fill::Full);
+    let entries = if exact { stage::exact(entries) } else { entries };
+    let store = stage::store(tables, &entries);
+    Sides::ours(library::LookupEntry { tables, store, entries, out: [0; LIST] })
+}
+
+/// The words asked about, where every entry is exact and none matches.
+fn lookup_others(tables: &'static Tables) -> Sides {
+    let entries = stage::exact(stage::others(stage::entries(tables, Fill::Full)));
+    let store = stage::store(tables, &entries);
+    Sides::ours(library::Lookup { tables, store, out: [0; LIST] })
+}
+
 /// To an empty store the first entry, else an entry of a known key.
 fn add_entry(tables: &'static Tables, fill: Fill) -> Sides {
     let entries = stage::entries(tables, fill);
@@ -188,6 +242,18 @@ fn add_entry(tables: &'static Tables, fill: Fill) -> Sides {
         }
     };
     sides
+}
+
+/// Exact entries of known keys.
+fn add_exact(tables: &'static Tables) -> Sides {
+    let entries = stage::exact(stage::entries(tables, Fill::Full));
+    let with_cells = |entry: &Entry| (entry.clone(), stage::cells(&entry.phones));
+    Sides::ours(library::AddEntry {
+        tables,
+        store: stage::store(tables, &entries),
+        empty: false,
+        entries: entries.iter().map(with_cells).collect(),
+    })
 }
 
 /// The original has the one call that takes a text at once.

@@ -29,6 +29,7 @@ pub struct Entry {
     pub word: String,
     pub tag: &'static str,
     pub phones: Vec<String>,
+    pub exact: bool,
 }
 
 /// A phone list in cells.
@@ -77,8 +78,8 @@ fn empty_store() -> Vec<u8> {
     store
 }
 
-/// The entries of a store that is so full: every fourth of the words asked about, then these with letters behind them.
-/// Their phones are those of the word, twice, up to 24.
+/// The entries of a store that is so full, ordinary ones: every fourth of the words asked about, then these with letters
+/// behind them. Their phones are those of the word, twice, up to 24.
 pub fn entries(tables: &Tables, fill: Fill) -> Vec<Entry> {
     let count = match fill {
         Fill::Empty => 0,
@@ -97,6 +98,7 @@ pub fn entries(tables: &Tables, fill: Fill) -> Vec<Entry> {
             word: format!("{}{behind}", word.text),
             tag: ["0", "n", "v"][i * 4 / tables.words.len() / 3 % 3],
             phones,
+            exact: false,
         }
     };
     let mut all: Vec<Entry> = asked.cycle().enumerate().map(entry).take(240).collect();
@@ -107,11 +109,23 @@ pub fn entries(tables: &Tables, fill: Fill) -> Vec<Entry> {
     all
 }
 
+/// The same entries, exact.
+pub fn exact(mut entries: Vec<Entry>) -> Vec<Entry> {
+    entries.iter_mut().for_each(|entry| entry.exact = true);
+    entries
+}
+
+/// The same entries, none of whose words is asked about: a capital stands behind each.
+pub fn others(mut entries: Vec<Entry>) -> Vec<Entry> {
+    entries.iter_mut().for_each(|entry| entry.word.push('Z'));
+    entries
+}
+
 /// Whether a phone may be added.
 fn is_known(tables: &Tables, phone: &str) -> bool {
     let mut store = vec![0; 2 * SLOT];
     let list = cell(phone.as_bytes());
-    ours::add_entry(&tables.lex[0], &mut store, b"a", b"", &list).refusal == 0
+    ours::add_entry(&tables.lex[0], &mut store, b"a", b"", &list, false).refusal == 0
 }
 
 /// A store with these entries.
@@ -119,7 +133,8 @@ pub fn store(tables: &Tables, entries: &[Entry]) -> Vec<u8> {
     let mut store = empty_store();
     for entry in entries {
         let (word, tag) = (entry.word.as_bytes(), entry.tag.as_bytes());
-        let answer = ours::add_entry(&tables.lex[0], &mut store, word, tag, &cells(&entry.phones));
+        let (phones, exact) = (cells(&entry.phones), entry.exact);
+        let answer = ours::add_entry(&tables.lex[0], &mut store, word, tag, &phones, exact);
         assert!(answer.refusal == 0, "{:?} is not added", entry.word);
     }
     store

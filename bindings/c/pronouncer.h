@@ -4,11 +4,11 @@
  * Link with libpronouncer.a (x86-64). docs/FORMATS.md tells the layout of sections, store, sheet,
  * settings and phone lists; this file tells what each call takes, answers, refuses and writes.
  *
- * Lent bytes. Each argument that is not a number is a pointer and a length in bytes. The pointer is
- * not NULL, also where the length is 0. The bytes may be anything: every call takes any bytes and any
- * length. Bytes that a call may write (those that are not const) must not overlap its other
- * arguments. Nothing is allocated, and nothing is kept between calls but the lent bytes; calls in
- * several threads are safe if none writes what another uses.
+ * Lent bytes. Each argument that is no number and no bool is a pointer and a length in bytes. The
+ * pointer is not NULL, also where the length is 0. The bytes may be anything: every call takes any
+ * bytes and any length. Bytes that a call may write (those that are not const) must not overlap its
+ * other arguments. Nothing is allocated, and nothing is kept between calls but the lent bytes; calls
+ * in several threads are safe if none writes what another uses.
  *
  * Refusals. A refused call leaves every lent byte as it was, but for the spare of
  * pronouncer_add_entries and pronouncer_preview_entries where a line is at fault. Where several
@@ -21,6 +21,7 @@
 #ifndef PRONOUNCER_H
 #define PRONOUNCER_H
 
+#include <stdbool.h>
 #include <stddef.h>
 #include <stdint.h>
 
@@ -68,8 +69,8 @@ enum pronouncer_refusal {
     /* A phone list has over 96 phones or a phone over 15 bytes, or an entry to be added has over 24
      * phones. Hand over fewer or shorter ones. */
     PRONOUNCER_PHONES = 7,
-    /* The store has neither an unused slot nor an entry of that word and tag. Lend a longer store with
-     * these bytes in front. */
+    /* The store has neither an unused slot nor an entry that the new one replaces. Lend a longer store
+     * with these bytes in front. */
     PRONOUNCER_FULL = 8,
     /* The sheet has too few unused items, or an output is too short. Begin a new sheet, or lend
      * more bytes. */
@@ -140,10 +141,11 @@ struct pronouncer_answer pronouncer_check_lexicon(
     const uint8_t *index, size_t index_len,
     const uint8_t *data, size_t data_len);
 
-/* Looks a word up: in the store, oldest entry first, then in the library's own table, then in the
- * lexicon. Only the store takes capitals for small letters. Of the tag the first byte counts; no
- * tag is "0". Store and table take an entry if the tags agree or either is "0"; the lexicon gives
- * the exact tag, else its first entry of that word.
+/* Looks a word up: in the store, then in the library's own table, then in the lexicon. The store
+ * gives the oldest exact entry that matches, else the oldest ordinary one: an exact entry matches its
+ * own bytes, an ordinary one takes capitals for small letters, as table and lexicon do not. Of the
+ * tag the first byte counts; no tag is "0". An entry of store or table matches only if the tags agree
+ * or either is "0"; the lexicon gives the entry of that tag, else its first of that word.
  *
  * phones, index, data: lex.phones, lex.index, lex.data. store: a sound store. word, tag. out: room
  * for the phones.
@@ -228,12 +230,13 @@ struct pronouncer_answer pronouncer_is_sayable(
  */
 struct pronouncer_answer pronouncer_new_store(uint8_t *store, size_t store_len);
 
-/* Adds an entry behind the others. The word is kept in small letters. Of the tag the first byte is
- * kept; no tag, and "nil", are "0". An entry of that word and tag is replaced: it keeps its slot and
- * becomes the last.
+/* Adds an entry behind the others. The word of an exact entry is kept as it is, that of an ordinary
+ * one in small letters. Of the tag the first byte is kept; no tag, and "nil", are "0". An entry of the
+ * same key is replaced: it keeps its slot and becomes the last. A key is the word as it is kept, the
+ * tag, and whether the entry is exact: ordinary "polish", exact "polish" and exact "Polish" are three.
  *
  * table: lex.phones. store: a sound store. word, tag. phones: a list of at most 24, each of them in
- * lex.phones or one of the 50.
+ * lex.phones or one of the 50. exact: whether the entry is exact.
  * Refusals:
  *    1  lex.phones breaks its form
  *    2  the store has a wrong length or is not sound
@@ -241,7 +244,7 @@ struct pronouncer_answer pronouncer_new_store(uint8_t *store, size_t store_len);
  *    3  word or tag is over 47 bytes, or it or a phone has a byte of 128 or more
  *    5  a phone is neither in lex.phones nor one of the 50, as is one over 15 bytes
  *    7  there are over 24 phones
- *    8  there is neither an unused slot nor an entry of that word and tag
+ *    8  there is neither an unused slot nor an entry of that key
  * Writes the entry's slot, whole, the links and the number of slots that are used, and the store's
  * count, which is one higher. Slots past the used ones keep their bytes. The store is sound at exit.
  */
@@ -250,7 +253,8 @@ struct pronouncer_answer pronouncer_add_entry(
     uint8_t *store, size_t store_len,
     const uint8_t *word, size_t word_len,
     const uint8_t *tag, size_t tag_len,
-    const uint8_t *phones, size_t phones_len);
+    const uint8_t *phones, size_t phones_len,
+    bool exact);
 
 /* Adds a text of entries, all of them or none: pronouncer_preview_entries and
  * pronouncer_accept_entries together.
@@ -259,7 +263,8 @@ struct pronouncer_answer pronouncer_add_entry(
  * without it is skipped. The others are entry lines:
  *     WORD [TAG] [ignored ...] : PHONE PHONE ...
  * The first colon splits, blanks (bytes 9 to 13 and 32) part the fields, and all outer quote marks
- * of the word come off. Each line is added as pronouncer_add_entry adds, in turn.
+ * of the word come off. Each line is added as pronouncer_add_entry adds an ordinary entry, in turn;
+ * exact entries stay as they are.
  *
  * table: lex.phones. store: a sound store. spare: as many bytes as the store has, that may hold
  * anything. text.
@@ -274,7 +279,7 @@ struct pronouncer_answer pronouncer_add_entry(
  *    4  there is no colon, or no word before it
  *    5  a phone is neither in lex.phones nor one of the 50
  *    7  there are over 24 phones
- *    8  the store, with the lines before, has neither an unused slot nor an entry of that word and tag
+ *    8  the store, with the lines before, has neither an unused slot nor an entry of that key
  * Accepted, it writes store and spare, and both are the store with all lines added; the store's count
  * is one higher, the spare's is the one seen. Refused as a whole, it writes nothing. Refused by a
  * line, it writes the spare alone, which is the store with the lines before added and the largest

@@ -157,7 +157,7 @@ fn is_known(lexicon: &Lexicon, phone: &[u8]) -> bool {
     let (mut slots, mut room) = ([0; 2 * SLOT_BYTES], [0; LIST_BYTES]);
     let added = Store::new_store(&mut slots).and_then(|mut store| {
         let list = PhoneList::write(&String::from_utf8_lossy(phone), &mut room)?;
-        store.add_entry(lexicon, "a", "", list)
+        store.add_entry(lexicon, "a", "", list, false)
     });
     added.is_ok()
 }

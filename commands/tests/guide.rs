@@ -57,5 +57,5 @@ fn the_one_that_cannot_be_typed_can_be_added() {
     let (mut slots, mut room) = ([0; 2 * SLOT_BYTES], [0; LIST_BYTES]);
     let mut store = Store::new_store(&mut slots).expect("a store");
     let phones = PhoneList::write("h#", &mut room).expect("a list");
-    store.add_entry(&example::LEXICON, "word", "", phones).expect("it is added");
+    store.add_entry(&example::LEXICON, "word", "", phones, false).expect("it is added");
 }

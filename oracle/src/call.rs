@@ -75,14 +75,23 @@ impl From<String> for Stop {
 
 pub type Ruling = Result<Told, Stop>;
 
+/// How far the original was asked.
+#[derive(Clone, Copy, PartialEq, Eq)]
+pub enum Asked {
+    /// Not at all; most refusals are 01's alone.
+    No,
+    /// For a part, because of exact entries, which it does not have.
+    Part,
+    Whole,
+}
+
 /// What 01 and the original ask of an input.
 pub struct Expected {
     /// What the call may write, as it is handed in.
     pub handed: Vec<Vec<u8>>,
     /// The outcome, or why there is none.
     pub outcome: Result<Outcome, String>,
-    /// Whether the original was asked; most refusals are 01's alone.
-    pub asked: bool,
+    pub asked: Asked,
     /// The row of the table that counts this answer.
     pub row: String,
     /// Rows that count what the input met on its way.
@@ -120,6 +129,11 @@ pub trait Call: Default {
     /// What 01 and the original say, whatever output there is. Tells what was met on the way.
     fn rule(&self, input: &Self::Input, met: &mut Met) -> Ruling;
 
+    /// Whether an input has exact entries, so that the original can be asked for a part alone.
+    fn has_exact(&self, _input: &Self::Input) -> bool {
+        false
+    }
+
     /// What the library is lent, in the order of its parameters.
     fn lent<'a>(&self, input: &'a Self::Input) -> Vec<Part<'a>>;
 
@@ -138,7 +152,8 @@ pub trait Call: Default {
             Err(Stop::RefusedBeside(refusal, need)) => Told::refused(refusal, need),
             Err(Stop::AtOdds(why)) => {
                 let (handed, outcome) = (handed(&parts, CELL), Err(why));
-                return Expected { handed, outcome, asked: true, row: String::new(), met: vec![] };
+                let asked = Asked::Whole;
+                return Expected { handed, outcome, asked, row: String::new(), met: vec![] };
             }
         };
         let handed = handed(&parts, told.need);
@@ -149,7 +164,11 @@ pub trait Call: Default {
         Expected {
             handed,
             outcome: Ok(Outcome { answer: told.answer, written, altered: None }),
-            asked: told.asked,
+            asked: match told.asked {
+                false => Asked::No,
+                true if self.has_exact(input) => Asked::Part,
+                true => Asked::Whole,
+            },
             row: row(told.answer.refusal, told.row),
             met: met.counted(Self::MET),
         }

@@ -20,6 +20,8 @@ pub enum Form {
     Sheet,
     /// Any bytes, at whose front a call leaves as many cells as its answer says.
     Cells,
+    /// A yes or no.
+    YesOrNo,
     /// A number, and the bits of a float.
     Number,
     Float,
@@ -37,6 +39,7 @@ impl Form {
             Form::PhoneList => or_dot(cells_of(given, given.len() / CELL)),
             Form::Store => store(given),
             Form::Sheet => sheet(given),
+            Form::YesOrNo => bytes(&given[..1]),
             Form::Number => u32_at(given, 0).to_string(),
             Form::Float => float(u32_at(given, 0)),
             Form::Settings => settings(given),

@@ -50,21 +50,41 @@ impl fmt::Display for Answer {
 /// A function of the library, given what it is lent.
 pub type Function = fn(&mut [Lent]) -> Answer;
 
-/// Functions of the library by their slices, with numbers in brackets behind a slice; each gets these, in this order.
+/// Something that is handed over by value, from the number that is lent in its place.
+trait ByValue {
+    fn of(lent: &Lent) -> Self;
+}
+
+impl ByValue for u32 {
+    fn of(lent: &Lent) -> u32 {
+        lent.number()
+    }
+}
+
+/// Yes is 1.
+impl ByValue for bool {
+    fn of(lent: &Lent) -> bool {
+        lent.number() == 1
+    }
+}
+
+/// Functions of the library by their slices, with values in brackets behind a slice; each gets these, in this order.
 macro_rules! library {
-    ($($name:ident = $function:ident($($slice:ident $([$($number:ident),*])?),*);)*) => {
+    ($($name:ident = $function:ident($($slice:ident $([$($value:ident: $kind:ty),*])?),*);)*) => {
         #[link(name = "pronouncer", kind = "static")]
         extern "C" {
-            $(fn $function($($slice: *mut u8, _: usize $($(, $number: u32)*)?),*) -> Answer;)*
+            $(fn $function($($slice: *mut u8, _: usize $($(, $value: $kind)*)?),*) -> Answer;)*
         }
 
         $(pub fn $name(lent: &mut [Lent]) -> Answer {
-            let [$($slice $($(, $number)*)?),*] = lent else {
+            let [$($slice $($(, $value)*)?),*] = lent else {
                 panic!("{} takes other slices", stringify!($name))
             };
             $(let $slice = $slice.bytes_mut();)*
             // SAFETY: each pointer and length is a whole slice that nothing else refers to.
-            unsafe { $function($($slice.as_mut_ptr(), $slice.len() $($(, $number.number())*)?),*) }
+            unsafe {
+                $function($($slice.as_mut_ptr(), $slice.len() $($(, <$kind>::of($value))*)?),*)
+            }
         })*
     };
 }
@@ -78,7 +98,7 @@ library! {
     check_lexicon = pronouncer_check_lexicon(phones, index, data);
     lookup = pronouncer_lookup(phones, index, data, store, word, tag, out);
     new_store = pronouncer_new_store(store);
-    add_entry = pronouncer_add_entry(lex_phones, store, word, tag, phones);
+    add_entry = pronouncer_add_entry(lex_phones, store, word, tag, phones [exact: bool]);
     add_entries = pronouncer_add_entries(phones, store, spare, text);
     preview_entries = pronouncer_preview_entries(phones, store, spare, text);
     accept_entries = pronouncer_accept_entries(store, spare);
@@ -87,7 +107,7 @@ library! {
         lex_phones, lex_index, lex_data, lts_phones, lts_index, lts_model, store, sheet, word, tag
     );
     phone_string = pronouncer_phone_string(sheet, out);
-    write_setting = pronouncer_write_setting(settings [version], name [kind, value]);
+    write_setting = pronouncer_write_setting(settings [version: u32], name [kind: u32, value: u32]);
 }
 
 /// Both steps of add_entries; the answer is the first one's, unless the second refuses.

@@ -1,6 +1,6 @@
 //! What calls and the shapes of their inputs are written with.
 
-pub(crate) use crate::call::{ask, row_of, Call, Expected, Outcome, Rows, Table};
+pub(crate) use crate::call::{ask, row_of, Asked, Call, Expected, Outcome, Rows, Table};
 pub(crate) use crate::call::{Ruling, Stop, Told, OUTPUT, OUTPUT_OR_NONE, TOO_SHORT};
 pub(crate) use crate::cells::{self, cell, cells, is_high, is_over, text, Cell, List, CELL};
 pub(crate) use crate::lent::{all_bytes, handed, Part, Room, Size};
@@ -12,7 +12,7 @@ pub(crate) use crate::random::{Random, Served};
 pub(crate) use crate::record::{self, case, named, register, registers, whole_case};
 pub(crate) use crate::records::{self, zeros};
 pub(crate) use crate::rows::Met;
-pub(crate) use crate::scene::{ascii, key, ways, Add, Key, Scene};
+pub(crate) use crate::scene::{ascii, ways, Add, Key, Peers, Scene};
 pub(crate) use crate::sheets::{self, ITEM};
 pub(crate) use crate::shrink::{with, Shrink};
 pub(crate) use crate::stores::{self, Entry, MOST_PHONES, SLOT};

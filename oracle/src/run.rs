@@ -50,7 +50,7 @@ impl<C: Call + 'static> Runner<C> {
     }
 
     fn shown(&self, input: &C::Input, (expected, ours): &Both) -> String {
-        let by = if expected.asked { "the Rust" } else { "papers" };
+        let by = if expected.asked == Asked::Whole { "the Rust" } else { "papers" };
         let (wanted, first) = match &expected.outcome {
             Ok(outcome) => (self.outcome(input, outcome), first_difference(outcome, ours)),
             Err(why) => (why.clone(), String::new()),
@@ -138,12 +138,15 @@ pub fn run(calls: &mut [Box<dyn Compared>], limit: Limit) -> Result<(), String> 
         }
     }
     let (all, seconds) = (total(calls), started.elapsed().as_secs_f64());
-    let asked: usize = calls.iter().map(|call| call.tally().asked).sum();
+    let [asked, part] = [Asked::Whole, Asked::Part].map(|how| {
+        let asked = calls.iter().map(|call| call.tally().asked(how));
+        grouped(asked.sum())
+    });
     let a_second = grouped((all as f64 / seconds) as usize);
-    let (all, asked) = (grouped(all), grouped(asked));
+    let all = grouped(all);
     println!(
-        "{all} calls, {asked} of them beside the Rust, the others refused or answered as the papers say: \
-        no difference\n{seconds:.1} s, {a_second} calls a second\n"
+        "{all} calls, {asked} of them beside the Rust, {part} in part, the others refused or answered as the \
+        papers say: no difference\n{seconds:.1} s, {a_second} calls a second\n"
     );
     Ok(())
 }

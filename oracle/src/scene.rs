@@ -1,4 +1,4 @@
-//! A lexicon beside a store, and the original with the same runtime entries.
+//! A lexicon beside a store, and the original with the same runtime entries, as far as it has such.
 
 use crate::forever::{hold_bytes, Held};
 use crate::prelude::*;
@@ -16,32 +16,93 @@ pub struct Scene {
     pub entries: Result<Vec<Placed>, &'static str>,
 }
 
-/// An entry to be added: its word, its tag and its phones, as they are handed in.
+/// An entry to be added: its word, its tag and its phones, as they are handed in, and whether it is exact.
 #[derive(Clone)]
 pub struct Add {
     pub wanted: Wanted,
     pub phones: List,
+    pub exact: bool,
 }
 
-smaller!(Add: wanted, phones);
+smaller!(Add: wanted, phones, exact by |exact: &bool| Vec::from_iter(exact.then_some(false)));
 
 impl Add {
     pub fn parts(&self) -> Vec<Part<'_>> {
-        let wanted = self.wanted.parts().into_iter();
-        wanted.chain([self.phones.part()]).collect()
+        let exact = Part::number("exact", Form::YesOrNo, self.exact.into());
+        self.wanted.parts().into_iter().chain([self.phones.part(), exact]).collect()
+    }
+
+    /// The key that its entry gets.
+    pub fn key(&self) -> Key {
+        Key::new(&self.wanted.word, &self.wanted.tag, self.exact)
+    }
+
+    /// The entry that it makes.
+    fn entry(&self) -> Entry {
+        let Key { word, tag, exact } = self.key();
+        Entry { tag, word, phones: self.phones.texts().into_iter().map(Vec::from).collect(), exact }
     }
 }
 
-/// The word and the tag of an entry.
-pub type Key = (Vec<u8>, u8);
+/// What tells two entries apart (02, S-8): the word as it is stored, the tag, and whether they are exact.
+#[derive(Clone, PartialEq, Eq, PartialOrd, Ord)]
+pub struct Key {
+    pub word: Vec<u8>,
+    pub tag: u8,
+    pub exact: bool,
+}
 
-/// The word and the tag that an entry gets: the word folded; "0" for no tag and for "nil".
-pub fn key(word: &[u8], tag: &[u8]) -> Key {
-    let tag = match tag {
-        b"" | b"nil" => b'0',
-        tag => tag[0],
-    };
-    (word.to_ascii_lowercase(), tag)
+impl Key {
+    /// The key of a word and a tag as handed in: an ordinary word folded; "0" for no tag and for "nil".
+    pub fn new(word: &[u8], tag: &[u8], exact: bool) -> Key {
+        let tag = match tag {
+            b"" | b"nil" => b'0',
+            tag => tag[0],
+        };
+        let word = if exact { word.to_vec() } else { word.to_ascii_lowercase() };
+        Key { word, tag, exact }
+    }
+
+    /// The same word and tag of the other kind.
+    pub fn twin(&self) -> Key {
+        Key { exact: !self.exact, ..self.clone() }
+    }
+}
+
+/// Entries that are to each other what the original's are, which has no exact ones: the ordinary entries, or the exact
+/// ones of one word's bytes.
+#[derive(Clone, Copy)]
+pub enum Peers<'a> {
+    Ordinary,
+    Exact(&'a [u8]),
+}
+
+impl Peers<'_> {
+    /// The peers of a key's entry.
+    pub fn of(key: &Key) -> Peers<'_> {
+        match key.exact {
+            true => Peers::Exact(&key.word),
+            false => Peers::Ordinary,
+        }
+    }
+
+    /// Whether an entry is one of them.
+    pub fn have(self, entry: &Entry) -> bool {
+        match self {
+            Peers::Ordinary => !entry.exact,
+            Peers::Exact(word) => entry.exact && entry.word == word,
+        }
+    }
+
+    /// An entry of the original as one of them.
+    pub fn entry(self, (tag, word, phones): &probe::Added) -> Entry {
+        let (word, exact) = match self {
+            Peers::Exact(own) if ascii(own).eq_ignore_ascii_case(word) => (own.to_vec(), true),
+            _ => (word.clone().into_bytes(), false),
+        };
+        let tag = u8::try_from(*tag).expect("tags are ASCII");
+        Entry { tag, word, phones: phones.iter().map(|phone| (*phone).into()).collect(), exact }
+    }
 }
 
 /// The ways to hand the original a tag: no tag can be none or an empty one.
@@ -61,7 +122,11 @@ impl Scene {
     pub fn new(lexicon: &Rc<Lexicon>, store: Vec<u8>) -> Scene {
         let entries = stores::read(&store);
         let original = match &entries {
-            Ok(entries) if lexicon.has_form() => Some(with_entries(lexicon, entries)),
+            Ok(entries) if lexicon.has_form() => {
+                let entries = entries.iter().map(|placed| &placed.entry);
+                let ordinary = entries.filter(|entry| Peers::Ordinary.have(entry));
+                Some(with_entries(lexicon, &ordinary.collect::<Vec<_>>()))
+            }
             _ => None,
         };
         Scene { original, lexicon: lexicon.clone(), store, entries }
@@ -93,10 +158,21 @@ impl Scene {
         table
     }
 
-    /// The original with the store's entries, where store and sections are accepted.
+    /// The original with the store's ordinary entries, where store and sections are accepted.
     pub fn original(&self) -> &lexicon::Lexicon {
         let held = self.original.as_ref();
         &held.expect("only sound stores are read").reader
+    }
+
+    /// Asks the original for a word. The exact entries of the word's bytes are the first of its list, as if they were
+    /// the oldest and ordinary.
+    pub fn asked_for<T>(&self, word: &[u8], question: impl FnOnce(&lexicon::Lexicon) -> T) -> T {
+        let exact: Vec<&Entry> = self.peers(Peers::Exact(word)).collect();
+        if exact.is_empty() {
+            return question(self.original());
+        }
+        let all: Vec<&Entry> = exact.into_iter().chain(self.peers(Peers::Ordinary)).collect();
+        question(&with_entries(&self.lexicon, &all).reader)
     }
 
     /// The entries of a sound store, the oldest first.
@@ -104,28 +180,48 @@ impl Scene {
         self.entries.as_ref().expect("the store is sound")
     }
 
-    /// What the original's list is after some change.
-    pub fn changed<T>(&self, change: impl FnOnce(&mut lexicon::Lexicon) -> T) -> (T, Vec<Entry>) {
-        let mut lexicon = self.original().clone();
-        let told = change(&mut lexicon);
-        (told, probe::added(&lexicon).iter().map(entry).collect())
+    /// Those of a sound store that are peers, the oldest first.
+    pub fn peers<'a>(&'a self, peers: Peers<'a>) -> impl Iterator<Item = &'a Entry> {
+        let entries = self.entries().iter().map(|placed| &placed.entry);
+        entries.filter(move |entry| peers.have(entry))
     }
 
-    /// The store when the original's list has become this one by adds of these keys: a known key keeps
-    /// its slot, a new one takes the next, and the chain is the list's order.
-    pub fn store_of(&self, keys: &[Key], list: &[Entry]) -> Result<Vec<u8>, String> {
+    /// Whether a sound store has exact entries.
+    pub fn has_exact(&self) -> bool {
+        self.entries.iter().flatten().any(|placed| placed.entry.exact)
+    }
+
+    /// What the original's list of these peers is after some change.
+    pub fn changed<T>(
+        &self,
+        peers: Peers,
+        change: impl FnOnce(&mut lexicon::Lexicon) -> T,
+    ) -> (T, Vec<Entry>) {
+        let own = || with_entries(&self.lexicon, &self.peers(peers).collect::<Vec<_>>());
+        let exact = matches!(peers, Peers::Exact(_)).then(own);
+        let mut lexicon = exact.as_ref().map_or(self.original(), |held| &held.reader).clone();
+        let told = change(&mut lexicon);
+        (told, probe::added(&lexicon).iter().map(|added| peers.entry(added)).collect())
+    }
+
+    /// The store when adds of these keys have made the original's list of their peers this one: a known key keeps its
+    /// slot, a new one takes the next. The entries of these keys are the last of the chain, in the list's order.
+    pub fn store_of(&self, peers: Peers, keys: &[Key], list: &[Entry]) -> Result<Vec<u8>, String> {
         let slot = |placed: &Placed| (placed.entry.key(), placed.slot);
         let mut slots: BTreeMap<Key, usize> = self.entries().iter().map(slot).collect();
         for key in keys {
             let next = slots.len() + 1;
             slots.entry(key.clone()).or_insert(next);
         }
-        let placed = |entry: &Entry| {
-            slots.get(&entry.key()).map(|slot| Placed { slot: *slot, entry: entry.clone() })
-        };
-        let chain: Option<Vec<Placed>> = list.iter().map(placed).collect();
-        let chain = chain.filter(|chain| chain.len() == slots.len());
-        let chain = chain.ok_or("the original's list has other keys than 01 says")?;
+        let is_added = |entry: &Entry| keys.contains(&entry.key());
+        let placed = |entry: &Entry| Placed { slot: slots[&entry.key()], entry: entry.clone() };
+        let others = self.entries().iter().filter(|placed| !is_added(&placed.entry)).cloned();
+        let added = list.iter().filter(|entry| is_added(entry)).map(placed);
+        let chain: Vec<Placed> = others.chain(added).collect();
+        let told = chain.iter().map(|placed| &placed.entry).filter(|entry| peers.have(entry));
+        if chain.len() != slots.len() || !told.eq(list) {
+            return Err("the original's list has other entries than the papers say".into());
+        }
         let store = stores::write(&self.store, &chain);
         assert!(stores::read(&store) == Ok(chain), "the driver does not read what it wrote");
         Ok(store)
@@ -142,26 +238,21 @@ impl Scene {
         known.map_or(self.entries().len() + 1, |placed| placed.slot)
     }
 
-    /// The store grown by adds, which the original makes, and its count with it; those without room are left out.
+    /// The store grown by adds, and its count with it; those without room are left out.
     pub fn grown(&self, adds: &[Add]) -> Vec<u8> {
-        let mut keys = self.keys();
+        let mut chain = self.entries().to_vec();
         let mut count = stores::count(&self.store);
-        let (_, list) = self.changed(|lexicon| {
-            for Add { wanted, phones } in adds {
-                let key = key(&wanted.word, &wanted.tag);
-                let is_new = !keys.contains(&key);
-                if is_new && keys.len() == stores::room(&self.store) {
-                    continue;
-                }
-                keys.extend(is_new.then_some(key));
-                let (word, tag) = (ascii(&wanted.word), ascii(&wanted.tag));
-                let phones: Vec<&str> = phones.texts().into_iter().map(ascii).collect();
-                lexicon.add_entry(word, Some(tag), &phones).expect("the phones are known");
-                count += 1;
-            }
-        });
-        let store = self.store_of(&keys, &list).expect("the original adds what 01 says");
-        stores::with_count(&store, count)
+        for entry in adds.iter().map(Add::entry) {
+            let known = chain.iter().position(|placed| placed.entry.key() == entry.key());
+            let slot = match known {
+                Some(at) => chain.remove(at).slot,
+                None if chain.len() == stores::room(&self.store) => continue,
+                None => chain.len() + 1,
+            };
+            chain.push(Placed { slot, entry });
+            count += 1;
+        }
+        stores::with_count(&stores::write(&self.store, &chain), count)
     }
 }
 
@@ -175,9 +266,9 @@ impl Shrink for Rc<Scene> {
     }
 }
 
-/// The original with these runtime entries.
-fn with_entries(lexicon: &Lexicon, entries: &[Placed]) -> Held<lexicon::Lexicon> {
-    let texts = entries.iter().flat_map(|placed| placed.entry.phones.concat());
+/// The original with these runtime entries, their words folded.
+fn with_entries(lexicon: &Lexicon, entries: &[&Entry]) -> Held<lexicon::Lexicon> {
+    let texts = entries.iter().flat_map(|entry| entry.phones.concat());
     hold_bytes(texts.collect(), |texts| {
         let mut rest = ascii(texts);
         let mut held = |phone: &Vec<u8>| {
@@ -185,20 +276,10 @@ fn with_entries(lexicon: &Lexicon, entries: &[Placed]) -> Held<lexicon::Lexicon>
             rest = behind;
             front
         };
-        let added = |placed: &Placed| {
-            let Entry { tag, word, phones } = &placed.entry;
-            let phones = phones.iter().map(&mut held).collect();
-            (char::from(*tag), ascii(word).to_string(), phones)
+        let added = |entry: &&Entry| {
+            let phones = entry.phones.iter().map(&mut held).collect();
+            (char::from(entry.tag), ascii(&entry.word).to_ascii_lowercase(), phones)
         };
         probe::with_added(lexicon.original(), entries.iter().map(added).collect())
     })
-}
-
-/// A runtime entry of the original.
-pub fn entry((tag, word, phones): &probe::Added) -> Entry {
-    Entry {
-        tag: u8::try_from(*tag).expect("tags are ASCII"),
-        word: word.clone().into_bytes(),
-        phones: phones.iter().map(|phone| (*phone).into()).collect(),
-    }
 }

@@ -2,15 +2,21 @@
 
 use crate::prelude::*;
 use crate::records::put;
-use crate::stores::{Placed, LARGEST};
+use crate::stores::{Placed, EXACT, LARGEST};
 use crate::tables::first_fit;
 
-/// A sound store beside a lexicon that has its form, grown by adds over some words.
-pub fn random(random: &mut Random, empty: &Scene, words: &[Vec<u8>], phones: &Phones) -> Vec<u8> {
+/// A sound store beside a lexicon that has its form, grown by adds over some words, some of them exact if they may be.
+pub fn random(
+    random: &mut Random,
+    empty: &Scene,
+    words: &[Vec<u8>],
+    phones: &Phones,
+    exact: bool,
+) -> Vec<u8> {
     let all = LARGEST / SLOT;
     let slots = random.ranged(&[(3, 1, 1), (16, 2, 8), (6, 2, 24), (1, all, all)]);
     let adds = random.ranged(&[(1, 0, 0), (4, slots - 1, slots - 1), (4, 0, 2 * slots - 1)]);
-    of_size(random, empty, words, phones, slots, adds)
+    of_size(random, empty, words, phones, [slots, adds], exact)
 }
 
 /// A sound store of so many slots, grown by so many adds; every other one is then renumbered, has other
@@ -20,12 +26,20 @@ pub fn of_size(
     empty: &Scene,
     words: &[Vec<u8>],
     phones: &Phones,
-    slots: usize,
-    adds: usize,
+    [slots, adds]: [usize; 2],
+    exact: bool,
 ) -> Vec<u8> {
     // a large store takes more words than a pool has
     let any = adds > 24;
-    let adds: Vec<Add> = (0..adds).map(|_| add(random, empty, words, phones, any)).collect();
+    let add = |_| {
+        let add = add(random, empty, words, phones, exact);
+        if any {
+            of_any_word(random, add)
+        } else {
+            add
+        }
+    };
+    let adds: Vec<Add> = (0..adds).map(add).collect();
     let mut store = empty.with_store(stores::new(slots, 0)).grown(&adds);
     if random.once_in(4) {
         store = renumbered(random, &store);
@@ -55,28 +69,40 @@ pub fn count(random: &mut Random) -> u64 {
     }
 }
 
-/// An entry that can be added, over some words or any.
+/// An entry that can be added, over some words; two in three are exact if they may be.
 pub fn add(
     random: &mut Random,
     scene: &Scene,
     words: &[Vec<u8>],
     phones: &Phones,
-    any: bool,
+    exact: bool,
 ) -> Add {
-    let mut word = words[random.below(words.len())].clone();
-    if any {
-        word.truncate(words::LONGEST - 3);
-        word.extend(random.bytes(3).iter().map(|b| b & 127));
-    }
+    let word = &words[random.below(words.len())];
     let tag = first_fit(|| words::tag(random), |tag| !words::is_refused(tag));
     let count = random.ranged(&[(1, 0, 0), (10, 1, 5), (2, 6, 24), (1, 24, 24)]);
-    let wanted = Wanted::new(words::recased(random, &word), tag);
-    Add { wanted, phones: List::of(&known(random, scene, phones, count)) }
+    let exact = exact && !random.once_in(3);
+    let word = if exact { words::cased(random, word) } else { words::recased(random, word) };
+    let phones = List::of(&known(random, scene, phones, count));
+    Add { wanted: Wanted::new(word, tag), phones, exact }
+}
+
+/// The same entry of nearly any word.
+fn of_any_word(random: &mut Random, mut add: Add) -> Add {
+    let word = &mut add.wanted.word;
+    word.truncate(words::LONGEST - 3);
+    word.extend(random.bytes(3).iter().map(|b| b & 127));
+    add
 }
 
 /// An entry that can be added, of a size that a list can hold.
-pub fn few_phones(random: &mut Random, scene: &Scene, words: &[Vec<u8>], phones: &Phones) -> Add {
-    let mut add = add(random, scene, words, phones, false);
+pub fn few_phones(
+    random: &mut Random,
+    scene: &Scene,
+    words: &[Vec<u8>],
+    phones: &Phones,
+    exact: bool,
+) -> Add {
+    let mut add = add(random, scene, words, phones, exact);
     add.phones.cells.truncate(6);
     add
 }
@@ -100,6 +126,16 @@ pub fn renumbered(random: &mut Random, store: &[u8]) -> Vec<u8> {
         placed.slot = slot;
     }
     stores::write(store, &chain)
+}
+
+/// The same with one of its entries exact that was not, or the other way round; not sound where that is amiss.
+pub fn of_other_kind(random: &mut Random, store: &[u8]) -> Vec<u8> {
+    let mut store = store.to_vec();
+    match stores::unused(&store) / SLOT - 1 {
+        0 => {}
+        used => store[SLOT * random.between(1, used) + EXACT] ^= 1,
+    }
+    store
 }
 
 /// Phones that are in no table, and words and tags that no line of text can hold.
@@ -133,7 +169,7 @@ pub fn damaged(random: &mut Random, store: &[u8]) -> Vec<u8> {
     let slots = store.len() / SLOT;
     let used = stores::unused(&store) / SLOT - 1;
     let slot = SLOT * random.between(usize::from(used > 0), used);
-    match random.below(16) {
+    match random.below(18) {
         0 => {
             let lengths = [0, SLOT - 1, store.len() - 1, store.len() + 1, LARGEST + SLOT];
             store.resize(lengths[random.below(5)], 0);
@@ -147,9 +183,12 @@ pub fn damaged(random: &mut Random, store: &[u8]) -> Vec<u8> {
         }
         3 => put(&mut store, slot, random.below(used + 2)),
         4 if used > 1 => {
-            // the key of another slot
+            // the key of another slot, or its word and tag
             let other = SLOT * random.between(1, used);
             store.copy_within(other + 2..other + 51, slot + 2);
+            if random.once_in(2) {
+                store[slot + EXACT] = store[other + EXACT];
+            }
         }
         way @ 5..=12 => damage_slot(random, &mut store[slot..][..SLOT], way),
         13 if used > 0 && used + 1 < slots => {
@@ -157,6 +196,7 @@ pub fn damaged(random: &mut Random, store: &[u8]) -> Vec<u8> {
             records::in_place_of(&mut store, SLOT, [slot / SLOT, used + 1], links);
         }
         14 => store[random.pick_byte(&[6, 7, 16, 17, 255]) as usize] = random.byte(),
+        15 | 16 => store[slot + EXACT] = random.pick_byte(&[0, 0, 1, 2, 3, 128, 255]),
         _ => {
             let at = random.below(store.len());
             store[at] ^= 1 << random.below(8);
@@ -179,7 +219,7 @@ fn damage_slot(random: &mut Random, slot: &mut [u8], way: usize) {
         10 => slot[random.between(2, 120)] |= 128,
         11 => slot[random.below(SLOT)] = random.byte(),
         _ => {
-            let zero = [6, 50, 52, 63, 63, 447, 448, 511][random.below(8)];
+            let zero = [6, 50, 53, 63, 63, 447, 448, 511][random.below(8)];
             slot[zero] = random.between(1, 255) as u8;
         }
     }

@@ -1,4 +1,4 @@
-//! The store: 01's layout with 02's count (S-2), read and written by the driver itself.
+//! The store: 01's layout with 02's count (S-2) and exact entries (S-8), read and written by the driver itself.
 
 use crate::prelude::*;
 use crate::records::{number, put, zeros};
@@ -17,6 +17,7 @@ const WORD_LEN: usize = 3;
 const WORD: usize = 4;
 const WORD_END: usize = WORD + words::LONGEST;
 const COUNT: usize = WORD_END;
+pub const EXACT: usize = COUNT + 1;
 const PHONES: usize = 64;
 const PHONES_END: usize = PHONES + MOST_PHONES * CELL;
 /// Where the links of slot 0 end, and where all its fields do.
@@ -25,17 +26,18 @@ pub const HEAD_END: usize = 16;
 /// Where its count stands: how often entries were added.
 const ADDED: Range<usize> = 8..HEAD_END;
 
-/// A runtime entry.
+/// A runtime entry; the word of an ordinary one is folded.
 #[derive(Clone, PartialEq, Eq)]
 pub struct Entry {
     pub tag: u8,
     pub word: Vec<u8>,
     pub phones: Vec<Vec<u8>>,
+    pub exact: bool,
 }
 
 impl Entry {
     pub fn key(&self) -> Key {
-        (self.word.clone(), self.tag)
+        Key { word: self.word.clone(), tag: self.tag, exact: self.exact }
     }
 }
 
@@ -95,8 +97,9 @@ fn read_slot(slot: &[u8]) -> Result<Entry, &'static str> {
     of_slot(slot)?;
     let cells = slot[PHONES..].chunks(CELL).take(slot[COUNT].into());
     let phone = |bytes: &[u8]| of_phone(bytes).map(|()| bytes[1..][..bytes[0].into()].to_vec());
+    let phones = cells.map(phone).collect::<Result<_, _>>()?;
     let word = slot[WORD..][..slot[WORD_LEN].into()].to_vec();
-    Ok(Entry { tag: slot[TAG], word, phones: cells.map(phone).collect::<Result<_, _>>()? })
+    Ok(Entry { tag: slot[TAG], word, phones, exact: slot[EXACT] == 1 })
 }
 
 checks! { pub UNSOUND:
@@ -125,20 +128,22 @@ checks! { pub UNSOUND:
     } [
         "store: chain misses a used slot" => chain.len() >= used,
         "store: 'last' is not the chain's last" => chain.last().map_or(0, |placed| placed.slot) == last,
-        "store: two entries of one word and tag" => keys.windows(2).all(|two| two[0] != two[1]),
+        "store: two entries of one key" => keys.windows(2).all(|two| two[0] != two[1]),
     ]
 
     /// A used slot.
     of_slot(slot: &[u8]) {
         let (len, count) = (usize::from(slot[WORD_LEN]), usize::from(slot[COUNT]));
+        let is_exact = slot[EXACT] == 1;
     } [
         "store: tag of 128 or more" => slot[TAG] <= 127,
         "store: word over 47 bytes" => len <= words::LONGEST,
         "store: word with a high byte" => slot[WORD..][..len].is_ascii(),
-        "store: word with a capital" => !slot[WORD..][..len].iter().any(u8::is_ascii_uppercase),
+        "store: byte 52 over 1" => slot[EXACT] <= 1,
+        "store: ordinary word with a capital" => is_exact || is_folded(&slot[WORD..][..len]),
         "store: bytes past a word" => zeros(&slot[WORD + len..WORD_END]),
         "store: over 24 phones" => count <= MOST_PHONES,
-        "store: bytes 52 to 63 of a slot" => zeros(&slot[COUNT + 1..PHONES]),
+        "store: bytes 53 to 63 of a slot" => zeros(&slot[EXACT + 1..PHONES]),
         "store: bytes past the phones' count" => zeros(&slot[PHONES + CELL * count..PHONES_END]),
         "store: bytes 448 to 511 of a slot" => zeros(&slot[PHONES_END..]),
     ]
@@ -151,6 +156,11 @@ checks! { pub UNSOUND:
         "store: phone with a high byte" => bytes[1..][..len].is_ascii(),
         "store: bytes past a phone" => zeros(&bytes[1 + len..]),
     ]
+}
+
+/// Whether a word has no capital.
+pub fn is_folded(word: &[u8]) -> bool {
+    !word.iter().any(u8::is_ascii_uppercase)
 }
 
 /// The rows of what is amiss in a store whose length is right.
@@ -172,13 +182,14 @@ pub fn write(store: &[u8], chain: &[Placed]) -> Vec<u8> {
     }
     for (i, placed) in chain.iter().enumerate() {
         let slot = &mut store[SLOT * placed.slot..][..SLOT];
-        let Entry { tag, word, phones } = &placed.entry;
+        let Entry { tag, word, phones, exact } = &placed.entry;
         slot.fill(0);
         put(slot, 0, slot_of(i + 1));
         slot[TAG] = *tag;
         slot[WORD_LEN] = word.len() as u8;
         slot[WORD..WORD + word.len()].copy_from_slice(word);
         slot[COUNT] = phones.len() as u8;
+        slot[EXACT] = u8::from(*exact);
         slot[PHONES..][..CELL * phones.len()].copy_from_slice(&cells(phones));
     }
     store

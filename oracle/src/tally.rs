@@ -1,6 +1,6 @@
 //! How many calls were compared, by answer and by what they met.
 
-use crate::call::{row, Call, Expected};
+use crate::call::{row, Asked, Call, Expected};
 
 /// The width of the rows' names.
 const WIDTH: usize = 54;
@@ -16,8 +16,8 @@ pub struct Tally {
     pub share_recorded: usize,
     answers: Rows,
     met: Rows,
-    /// How often the original was asked.
-    pub asked: usize,
+    /// How often the original was not asked, asked for a part, and asked as a whole.
+    asked: [usize; 3],
 }
 
 impl Tally {
@@ -32,12 +32,12 @@ impl Tally {
             share_recorded: C::SHARE_RECORDED,
             answers: answers.chain(refusals).map(|name| (name, 0)).collect(),
             met: met.map(|name| (name, 0)).collect(),
-            asked: 0,
+            asked: [0; 3],
         }
     }
 
     pub fn add(&mut self, expected: &Expected) {
-        self.asked += usize::from(expected.asked);
+        self.asked[expected.asked as usize] += 1;
         count(&mut self.answers, &expected.row);
         for name in &expected.met {
             count(&mut self.met, name);
@@ -48,10 +48,18 @@ impl Tally {
         self.answers.iter().map(|row| row.1).sum()
     }
 
+    /// How often the original was asked so far.
+    pub fn asked(&self, how: Asked) -> usize {
+        self.asked[how as usize]
+    }
+
     pub fn print(&self) {
         let by = match self.asked {
-            0 => "by the papers".into(),
-            asked => format!("{} beside the Rust", grouped(asked)),
+            [_, 0, 0] => "by the papers".into(),
+            [_, 0, whole] => format!("{} beside the Rust", grouped(whole)),
+            [_, part, whole] => {
+                format!("{} beside the Rust, {} in part", grouped(whole), grouped(part))
+            }
         };
         let calls = grouped(self.calls());
         println!("{:<WIDTH$}{calls:>12}   {by}", self.name);

@@ -122,6 +122,20 @@ pub fn recased(random: &mut Random, word: &[u8]) -> Vec<u8> {
     word.iter().map(recased).collect()
 }
 
+/// A word as it is, without capitals, with one in front, or in some of its letters.
+pub fn cased(random: &mut Random, word: &[u8]) -> Vec<u8> {
+    let mut cased = word.to_ascii_lowercase();
+    match random.below(4) {
+        0 => word.to_vec(),
+        1 => cased,
+        2 => {
+            cased.iter_mut().take(1).for_each(u8::make_ascii_uppercase);
+            cased
+        }
+        _ => recased(random, word),
+    }
+}
+
 /// A word near one of some others, or one of them; one in forty is refused.
 pub fn near(random: &mut Random, words: &[Vec<u8>]) -> Vec<u8> {
     let word = &words[random.below(words.len())];

@@ -8,17 +8,24 @@ use crate::{CELL_BYTES, ENTRY_PHONES, LARGEST_BYTES, SLOT_BYTES, WORD_BYTES};
 #[derive(Clone, Copy)]
 #[non_exhaustive]
 pub struct Entry<'s> {
-    /// The word, in small letters.
+    /// The word: as it was given if the entry is exact, otherwise in small letters.
     pub word: &'s str,
     /// The tag: one byte, "0" where none was given.
     pub tag: &'s str,
     /// The phones, with their stress.
     pub phones: PhoneList<'s>,
+    /// Whether it matches only a word of the same bytes.
+    pub exact: bool,
 }
 
+/// A line of a text of entries, with the remark "exact" behind an exact one: a text makes none.
 impl fmt::Debug for Entry<'_> {
     fn fmt(&self, f: &mut fmt::Formatter<'_>) -> fmt::Result {
-        write!(f, "{} {} : {}", self.word, self.tag, self.phones)
+        write!(f, "{} {} : {}", self.word, self.tag, self.phones)?;
+        if self.exact {
+            f.write_str(" # exact")?;
+        }
+        Ok(())
     }
 }
 
@@ -30,6 +37,7 @@ const USED: usize = 4;
 const WORD_LENGTH: usize = 3;
 const WORD: usize = 4;
 const PHONE_COUNT: usize = 51;
+const EXACT: usize = 52;
 const PHONES: usize = 64;
 
 /// How many slots a store has at most, the first among them.
@@ -76,6 +84,7 @@ impl<'s> Iterator for Entries<'s> {
             word: phones::text(&slot[WORD..], slot[WORD_LENGTH], WORD_BYTES),
             tag: phones::text(&slot[TAG..], 1, 1),
             phones: PhoneList::from_cells(&slot[PHONES..PHONES + CELL_BYTES * count]),
+            exact: slot[EXACT] == 1,
         })
     }
 }

@@ -142,6 +142,7 @@ extern "C" {
         tag_len: usize,
         phones: *const u8,
         phones_len: usize,
+        exact: bool,
     ) -> Answer;
 
     fn pronouncer_add_entries(
@@ -308,7 +309,14 @@ pub fn new_store(store: &mut [u8]) -> Answer {
     unsafe { pronouncer_new_store(store.as_mut_ptr(), store.len()) }
 }
 
-pub fn add_entry(table: &[u8], store: &mut [u8], word: &[u8], tag: &[u8], phones: &[u8]) -> Answer {
+pub fn add_entry(
+    table: &[u8],
+    store: &mut [u8],
+    word: &[u8],
+    tag: &[u8],
+    phones: &[u8],
+    exact: bool,
+) -> Answer {
     unsafe {
         pronouncer_add_entry(
             table.as_ptr(),
@@ -321,6 +329,7 @@ pub fn add_entry(table: &[u8], store: &mut [u8], word: &[u8], tag: &[u8], phones
             tag.len(),
             phones.as_ptr(),
             phones.len(),
+            exact,
         )
     }
 }

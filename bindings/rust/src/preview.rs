@@ -41,7 +41,7 @@ use crate::store::Store;
 /// # let (mut slots, mut spare) = ([0; 8 * 512], [0; 8 * 512]);
 /// # let mut store = Store::new_store(&mut slots)?;
 /// let preview = store.preview_entries(&example::LEXICON, &mut spare, "gobo : g ow1 b ow0")?;
-/// store.add_entry(&example::LEXICON, "cat", "n", PhoneList::from_cells(b""))?;
+/// store.add_entry(&example::LEXICON, "cat", "n", PhoneList::from_cells(b""), false)?;
 /// preview.accept()?;
 /// # Ok::<(), pronouncer::Refused>(())
 /// ```
@@ -71,7 +71,7 @@ impl<'s, 'a> Preview<'s, 'a> {
         self.newly_used
     }
 
-    /// How many lines replace an entry of the same word and tag, that of an earlier line included.
+    /// How many lines replace an ordinary entry of the same word and tag, that of an earlier line included.
     pub fn replaced(&self) -> usize {
         self.replaced
     }

@@ -10,7 +10,7 @@ use crate::unsound::Unsound;
 /// use pronouncer::Refusal;
 ///
 /// assert_eq!(Refusal::Full.number(), 8);
-/// assert_eq!(Refusal::Full.cause(), "the store has no unused slot and no entry of that word and tag");
+/// assert_eq!(Refusal::Full.cause(), "the store has no unused slot and no entry that the new one replaces");
 /// assert!(Refusal::Full.cure().starts_with("lend a longer store"));
 /// ```
 #[derive(Debug, Clone, Copy, PartialEq, Eq, Hash)]
@@ -31,7 +31,7 @@ pub enum Refusal {
     Damaged,
     /// 7: a phone list has over 96 phones or a phone over 15 bytes, or an entry over 24 phones.
     Phones,
-    /// 8: the store has neither an unused slot nor an entry of that word and tag.
+    /// 8: the store has neither an unused slot nor an entry that the new one replaces.
     Full,
     /// 9: the sheet has too few unused items, or an output is too short.
     Short,
@@ -103,7 +103,7 @@ impl Refusal {
             Refusal::Phones => {
                 "a phone list has over 96 phones or a phone over 15 bytes, or an entry has over 24 phones"
             }
-            Refusal::Full => "the store has no unused slot and no entry of that word and tag",
+            Refusal::Full => "the store has no unused slot and no entry that the new one replaces",
             Refusal::Short => "the sheet has too few unused items, or the output is too short",
             Refusal::Count => {
                 "the spare was filled from the store as it was before something else was accepted, \

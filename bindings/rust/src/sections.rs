@@ -154,8 +154,12 @@ impl<'a> Lexicon<'a> {
     /// Looks a word up: in the store, then in the library's own table, then in the lexicon. The phones are
     /// written into `out`, 16 bytes each; [`LIST_BYTES`](crate::LIST_BYTES) are enough for every word.
     ///
-    /// Of a tag the first byte counts, and none is "0". The store and the library's table take any entry when
-    /// either tag is "0"; the lexicon prefers the exact tag. Only the store takes "Cat" for "cat".
+    /// The store gives the oldest exact entry that matches, else the oldest ordinary one. An exact entry matches
+    /// its own bytes; an ordinary one takes "Cat" for "cat", as table and lexicon do not.
+    ///
+    /// Of a tag the first byte counts, and none is "0". An entry of the store or of the library's table matches
+    /// only if the tags agree or either is "0"; the lexicon gives the entry of that tag, else its first of that
+    /// word.
     ///
     /// # Errors
     ///

@@ -21,7 +21,7 @@ const COUNT: usize = 8;
 ///
 /// let (mut slots, mut room, mut out) = ([0; 4 * 512], [0; LIST_BYTES], [0; LIST_BYTES]);
 /// let mut store = Store::new_store(&mut slots)?;
-/// store.add_entry(&example::LEXICON, "Dimmer", "n", PhoneList::write("d ih1 m er0", &mut room)?)?;
+/// store.add_entry(&example::LEXICON, "Dimmer", "n", PhoneList::write("d ih1 m er0", &mut room)?, false)?;
 ///
 /// let found = example::LEXICON.lookup(&store, "dimmer", "", &mut out)?.expect("it was added");
 /// assert_eq!(found.phones.to_string(), "d ih1 m er0");
@@ -54,8 +54,12 @@ impl<'a> Store<'a> {
         Store { bytes }
     }
 
-    /// Adds an entry behind the others; one of the same word and tag goes. The word is kept in small letters.
-    /// Of a tag the first byte counts; none, and "nil", are "0".
+    /// Adds an entry behind the others, exact or ordinary. An exact one keeps its word as it is, and matches only
+    /// the same bytes; an ordinary one keeps it in small letters, and takes capitals for them. Where both match, the
+    /// exact one is found. Of a tag the first byte counts; none, and "nil", are "0".
+    ///
+    /// An entry of the same key goes: the word as it is kept, the tag, and whether it is exact. So `polish`, exact
+    /// `polish` and exact `Polish` stand beside each other.
     ///
     /// # Errors
     ///
@@ -63,15 +67,44 @@ impl<'a> Store<'a> {
     /// [`Count`](crate::Refusal::Count) where the store's count is the largest, [`Text`](crate::Refusal::Text),
     /// [`UnknownPhone`](crate::Refusal::UnknownPhone), [`Phones`](crate::Refusal::Phones) for over 24 phones,
     /// [`Full`](crate::Refusal::Full).
+    ///
+    /// ```
+    /// use pronouncer::{example, PhoneList, Refused, Store, LIST_BYTES};
+    ///
+    /// let mut slots = [0; 8 * 512];
+    /// let mut store = Store::new_store(&mut slots)?;
+    /// let mut add = |word, phones, exact| {
+    ///     let mut room = [0; LIST_BYTES];
+    ///     store.add_entry(&example::LEXICON, word, "", PhoneList::write(phones, &mut room)?, exact)
+    /// };
+    /// add("polish", "p ao1 l ih0 sh", false)?;
+    /// add("Polish", "p ow1 l ih0 sh", true)?;
+    ///
+    /// let said = |word| -> Result<String, Refused> {
+    ///     let mut out = [0; LIST_BYTES];
+    ///     let found = example::LEXICON.lookup(&store, word, "", &mut out)?;
+    ///     Ok(found.expect("it was added").phones.to_string())
+    /// };
+    /// assert_eq!(said("Polish")?, "p ow1 l ih0 sh");
+    /// assert_eq!(said("polish")?, "p ao1 l ih0 sh");
+    /// assert_eq!(said("POLISH")?, "p ao1 l ih0 sh");
+    ///
+    /// assert_eq!(
+    ///     format!("{store:?}"),
+    ///     "[polish 0 : p ao1 l ih0 sh, Polish 0 : p ow1 l ih0 sh # exact]"
+    /// );
+    /// # Ok::<(), pronouncer::Refused>(())
+    /// ```
     pub fn add_entry(
         &mut self,
         lexicon: &Lexicon<'_>,
         word: impl AsRef<[u8]>,
         tag: impl AsRef<[u8]>,
         phones: PhoneList<'_>,
+        exact: bool,
     ) -> Result<(), Refused> {
         let (word, tag) = (word.as_ref(), tag.as_ref());
-        foreign::add_entry(lexicon.phones, self.bytes, word, tag, phones.cells())
+        foreign::add_entry(lexicon.phones, self.bytes, word, tag, phones.cells(), exact)
             .accepted_on(|| unsound::in_store(self.bytes))?;
         Ok(())
     }
@@ -80,9 +113,10 @@ impl<'a> Store<'a> {
     /// [`preview_entries`](Store::preview_entries) and [`Preview::accept`] together.
     ///
     /// A line is `WORD TAG : PHONE PHONE`; the tag may be missing, what stands behind a "#" is a remark, and
-    /// a line without anything else is skipped. The spare is as long as the store. After success the two differ
-    /// in the count only. Where a line is faulty, the store stays as it was and the spare shows how far the text
-    /// came: it holds the store with the lines before, and the largest count.
+    /// a line without anything else is skipped. Every line makes an ordinary entry, and exact ones stay as they are.
+    /// The spare is as long as the store. After success the two differ in the count only. Where a line is faulty, the
+    /// store stays as it was and the spare shows how far the text came: it holds the store with the lines before, and
+    /// the largest count.
     ///
     /// # Errors
     ///
@@ -206,7 +240,8 @@ impl<'a> Store<'a> {
         bytes.map_or(0, u64::from_le_bytes)
     }
 
-    /// The entries in the order in which a lookup tries them: one that was added again is the last.
+    /// The entries, oldest first; one that was added again is the last. A lookup tries the exact ones in this order,
+    /// then the ordinary ones.
     ///
     /// Over bytes that are no sound store it gives what it can follow; it meets no slot twice, so it ends.
     pub fn iter(&self) -> Entries<'_> {

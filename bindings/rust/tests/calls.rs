@@ -30,7 +30,8 @@ impl Show {
     fn add(&mut self, word: &str, tag: &str, phones: &[&str]) -> Result<(), Refusal> {
         let cells = cells(phones);
         let mut store = Store::over(&mut self.slots);
-        let told = store.add_entry(&example::LEXICON, word, tag, PhoneList::from_cells(&cells));
+        let told =
+            store.add_entry(&example::LEXICON, word, tag, PhoneList::from_cells(&cells), false);
         told.map_err(|refused| refused.refusal)
     }
 

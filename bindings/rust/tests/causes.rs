@@ -27,7 +27,7 @@ fn of_lengths() {
         let mut store = Store::over(&mut bytes);
         let none = PhoneList::from_cells(b"");
         caused(NO_WORDS.lookup(&store, "a", "", &mut []), cause);
-        caused(store.add_entry(&NO_WORDS, "a", "", none), cause);
+        caused(store.add_entry(&NO_WORDS, "a", "", none, false), cause);
         caused(store.add_entries(&NO_WORDS, &mut [], "a : k"), cause);
         caused(store.preview_entries(&NO_WORDS, &mut [], "a : k"), cause);
         caused(store.accept_entries(&[]), cause);
@@ -48,7 +48,7 @@ fn of_bytes() {
         let mut store = Store::over(&mut bytes);
         let (none, cause) = (PhoneList::from_cells(b""), Unsound::StoreBytes);
         caused(NO_WORDS.lookup(&store, "a", "", &mut []), cause);
-        caused(store.add_entry(&NO_WORDS, "a", "", none), cause);
+        caused(store.add_entry(&NO_WORDS, "a", "", none, false), cause);
         caused(store.add_entries(&NO_WORDS, &mut [], "a : k"), cause);
         caused(store.preview_entries(&NO_WORDS, &mut [], "a : k"), cause);
         caused(store.accept_entries(&[]), cause);
@@ -57,6 +57,58 @@ fn of_bytes() {
     items[8] = 1;
     let sheet = Sheet::over(&mut items);
     caused(sheet.phone_string(&mut []), Unsound::SheetBytes);
+}
+
+/// Ordinary polish in slot 1 and exact Polish in slot 2; one slot is not used.
+fn two_entries() -> Vec<u8> {
+    let mut bytes = a_store(4);
+    let mut store = Store::over(&mut bytes);
+    for (word, exact) in [("polish", false), ("Polish", true)] {
+        let none = PhoneList::from_cells(b"");
+        store.add_entry(&NO_WORDS, word, "", none, exact).expect("it is added");
+    }
+    bytes
+}
+
+/// The places where the word, and whether it is exact, stand in the two slots.
+const ORDINARY: [usize; 2] = [512 + 4, 512 + 52];
+const EXACT: [usize; 2] = [1024 + 4, 1024 + 52];
+
+#[test]
+fn of_slots() {
+    let whether = [ORDINARY[1], EXACT[1]];
+    let neither = whether.into_iter().flat_map(|at| [2, 3, 128, 255].map(|byte| (at, byte)));
+    let beside = whether.into_iter().flat_map(|at| (at + 1..at + 12).map(|at| (at, 1)));
+    let capitals = [(ORDINARY[0], b'P'), (EXACT[1], 0)];
+    for (at, byte) in neither.chain(beside).chain(capitals) {
+        let mut bytes = two_entries();
+        bytes[at] = byte;
+        let (none, cause) = (PhoneList::from_cells(b""), Unsound::StoreBytes);
+        let spare = bytes.clone();
+        let mut store = Store::over(&mut bytes);
+        caused(NO_WORDS.lookup(&store, "a", "", &mut []), cause);
+        for exact in [false, true] {
+            caused(store.add_entry(&NO_WORDS, "a", "", none, exact), cause);
+        }
+        caused(store.add_entries(&NO_WORDS, &mut [], "a : k"), cause);
+        caused(store.preview_entries(&NO_WORDS, &mut [], "a : k"), cause);
+        caused(Store::over(&mut two_entries()).accept_entries(&spare), Unsound::SpareBytes);
+    }
+}
+
+#[test]
+fn none_of_slots() {
+    let lookup = |alterations: &[(usize, u8)]| {
+        let mut bytes = two_entries();
+        alterations.iter().for_each(|&(at, byte)| bytes[at] = byte);
+        NO_WORDS.lookup(&Store::over(&mut bytes), "a", "", &mut []).map(drop)
+    };
+    // An exact word may have small letters, also beside the same ordinary one; but no two have one key.
+    assert_eq!(lookup(&[]), Ok(()));
+    assert_eq!(lookup(&[(ORDINARY[1], 1)]), Ok(()));
+    assert_eq!(lookup(&[(EXACT[0], b'p')]), Ok(()));
+    caused(lookup(&[(EXACT[0], b'p'), (ORDINARY[1], 1)]), Unsound::StoreBytes);
+    caused(lookup(&[(EXACT[0], b'p'), (EXACT[1], 0)]), Unsound::StoreBytes);
 }
 
 #[test]

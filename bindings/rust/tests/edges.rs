@@ -14,15 +14,15 @@ fn a_store_of_127_entries() {
     let phones = PhoneList::from_cells(&cells);
     for number in 0..127 {
         let word = format!("word{number}");
-        assert_eq!(store.add_entry(&NO_WORDS, &word, "", phones), Ok(()), "{word}");
+        assert_eq!(store.add_entry(&NO_WORDS, &word, "", phones, false), Ok(()), "{word}");
     }
     let before = store.bytes().to_vec();
-    let refused = store.add_entry(&NO_WORDS, "word127", "", phones).unwrap_err();
+    let refused = store.add_entry(&NO_WORDS, "word127", "", phones, false).unwrap_err();
     assert_eq!((refused.refusal, refused.line), (Refusal::Full, 0));
     assert_eq!(store.bytes(), before);
-    assert_eq!(store.add_entry(&NO_WORDS, "WORD0", "nil", phones), Ok(()));
+    assert_eq!(store.add_entry(&NO_WORDS, "WORD0", "nil", phones, false), Ok(()));
     assert_eq!(
-        store.add_entry(&NO_WORDS, "word0", "n", phones).unwrap_err().refusal,
+        store.add_entry(&NO_WORDS, "word0", "n", phones, false).unwrap_err().refusal,
         Refusal::Full
     );
 
@@ -71,9 +71,13 @@ fn the_largest_count() {
     Store::new_store(&mut new).expect("a store");
     let none = PhoneList::from_cells(b"");
     type Add = fn(&mut Store<'_>) -> Result<(), Refusal>;
-    let adds: [Add; 3] = [
+    let adds: [Add; 4] = [
         |store| {
-            let told = store.add_entry(&NO_WORDS, "a", "", PhoneList::from_cells(b""));
+            let told = store.add_entry(&NO_WORDS, "a", "", PhoneList::from_cells(b""), false);
+            told.map_err(|refused| refused.refusal)
+        },
+        |store| {
+            let told = store.add_entry(&NO_WORDS, "a", "", PhoneList::from_cells(b""), true);
             told.map_err(|refused| refused.refusal)
         },
         |store| {
@@ -102,10 +106,12 @@ fn the_largest_count() {
         let mut longer = vec![0; 3 * 512];
         let mut other = Store::new_store(&mut longer).expect("a store");
         for entry in &store {
-            other.add_entry(&NO_WORDS, entry.word, entry.tag, entry.phones).expect("it is added");
+            other
+                .add_entry(&NO_WORDS, entry.word, entry.tag, entry.phones, entry.exact)
+                .expect("it is added");
         }
         assert_eq!((other.len(), other.count()), (1, 1));
-        assert_eq!(other.add_entry(&NO_WORDS, "b", "", none), Ok(()));
+        assert_eq!(other.add_entry(&NO_WORDS, "b", "", none, false), Ok(()));
     }
 }
 
@@ -114,12 +120,15 @@ fn a_full_store_in_front_of_more_bytes() {
     let mut slots = vec![0; 1024];
     let mut store = Store::new_store(&mut slots).expect("a store");
     let none = PhoneList::from_cells(b"");
-    assert_eq!(store.add_entry(&NO_WORDS, "a", "", none), Ok(()));
-    assert_eq!(store.add_entry(&NO_WORDS, "b", "", none).unwrap_err().refusal, Refusal::Full);
+    assert_eq!(store.add_entry(&NO_WORDS, "a", "", none, false), Ok(()));
+    assert_eq!(
+        store.add_entry(&NO_WORDS, "b", "", none, false).unwrap_err().refusal,
+        Refusal::Full
+    );
 
     let mut longer = [store.bytes(), &[0xff; 512]].concat();
     let mut store = Store::over(&mut longer);
-    assert_eq!(store.add_entry(&NO_WORDS, "b", "", none), Ok(()));
+    assert_eq!(store.add_entry(&NO_WORDS, "b", "", none, false), Ok(()));
     for word in ["a", "b"] {
         assert!(NO_WORDS.lookup(&store, word, "", &mut []).expect("it is accepted").is_some());
     }

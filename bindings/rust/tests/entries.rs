@@ -28,7 +28,9 @@ fn a_store(slots: usize, added: &[Added]) -> Vec<u8> {
     let mut store = Store::new_store(&mut bytes).expect("a store");
     for (word, tag, phones) in added {
         let cells = cells(phones);
-        store.add_entry(&NO_WORDS, word, tag, PhoneList::from_cells(&cells)).expect("it is added");
+        store
+            .add_entry(&NO_WORDS, word, tag, PhoneList::from_cells(&cells), false)
+            .expect("it is added");
     }
     bytes
 }
@@ -60,7 +62,9 @@ fn entries_go_into_another_store() {
     let mut longer = a_store(9, &[]);
     let mut other = Store::over(&mut longer);
     for entry in &Store::over(&mut bytes) {
-        other.add_entry(&NO_WORDS, entry.word, entry.tag, entry.phones).expect("it is added");
+        other
+            .add_entry(&NO_WORDS, entry.word, entry.tag, entry.phones, entry.exact)
+            .expect("it is added");
     }
     assert_eq!(format!("{other:?}"), "[lead 0 : , iris n : ay r ih s]");
 }
@@ -74,6 +78,19 @@ fn a_full_store() {
     assert_eq!(store.len(), 127);
     assert!(store.iter().map(|entry| entry.word).eq(words));
     assert!(store.iter().all(|entry| entry.phones.to_string() == ["k"; 24].join(" ")));
+}
+
+#[test]
+fn whether_it_is_exact() {
+    let mut bytes = two_entries();
+    assert!(Store::over(&mut bytes).iter().all(|entry| !entry.exact));
+    for byte in 0..=255 {
+        bytes[1024 + 52] = byte;
+        let store = Store::over(&mut bytes);
+        assert!(store.iter().map(|entry| entry.exact).eq([byte == 1, false]), "{byte}");
+        let remark = if byte == 1 { " # exact" } else { "" };
+        assert_eq!(format!("{store:?}"), format!("[lead 0 : {remark}, iris n : ay r ih s]"));
+    }
 }
 
 #[test]

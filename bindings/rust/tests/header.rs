@@ -1,6 +1,6 @@
 //! The C header compiles alone, as C and as C++, and C programs link with the library: the example says its
-//! words, kinds that no Rust can hand over are refused, and C is told where letters stopped and what a preview
-//! saw. Where there is no compiler these tests say so and pass.
+//! words, kinds that no Rust can hand over are refused, C adds exact entries, and is told where letters stopped and
+//! what a preview saw. Where there is no compiler these tests say so and pass.
 
 use std::path::{Path, PathBuf};
 use std::process::{Command, Output};
@@ -67,6 +67,11 @@ fn example_links_and_runs() {
 fn ends_well(name: &str) {
     let source = Path::new(env!("CARGO_MANIFEST_DIR")).join(format!("tests/{name}.c"));
     printed(&source, name);
+}
+
+#[test]
+fn exact_entries() {
+    ends_well("exact");
 }
 
 #[test]

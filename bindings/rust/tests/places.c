@@ -49,7 +49,8 @@ int main(void)
     size_t i;
 
     if (pronouncer_new_store(store, sizeof store).refusal != 0 ||
-        pronouncer_add_entry(none, sizeof none, store, sizeof store, (const uint8_t *)"mel#o", 5, none, 0, none, 0)
+        pronouncer_add_entry(
+            none, sizeof none, store, sizeof store, (const uint8_t *)"mel#o", 5, none, 0, none, 0, false)
                 .refusal != 0 ||
         pronouncer_new_sheet(sheet, sizeof sheet).refusal != 0)
         return 1;

@@ -101,7 +101,7 @@ fn of_say_word_where_the_word_is_found() {
 
     let cells = cells(&["t", "uw"]);
     let phones = PhoneList::from_cells(&cells);
-    store.add_entry(&NO_WORDS, "tempo#two", "", phones).expect("it is added");
+    store.add_entry(&NO_WORDS, "tempo#two", "", phones, false).expect("it is added");
     for word in ["tempo#two", "Tempo#Two"] {
         assert_eq!(said(&lexicon, &store, word, "v"), (0, format!("{word}[t uw 0]")));
     }

@@ -12,7 +12,7 @@ fn a_store(words: &[&str]) -> Vec<u8> {
     let cells = cells(&["t"]);
     for word in words {
         let phones = PhoneList::from_cells(&cells);
-        store.add_entry(&NO_WORDS, word, "", phones).expect("it is added");
+        store.add_entry(&NO_WORDS, word, "", phones, false).expect("it is added");
     }
     bytes
 }

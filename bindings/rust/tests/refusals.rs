@@ -145,39 +145,36 @@ fn new_store_and_new_sheet() {
 
 #[test]
 fn add_entry() {
+    for exact in [false, true] {
+        each_refusal_of_add_entry(exact);
+    }
+}
+
+fn each_refusal_of_add_entry(exact: bool) {
     let many = cells(&[&["k"; 24][..], &["zz"]].concat());
     let (many, known) = (PhoneList::from_cells(&many), cells(&["k"; 25]));
     let known = PhoneList::from_cells(&known);
+    let run =
+        |bytes: &mut [u8], refusal, lexicon: &Lexicon<'_>, [word, tag]: [&[u8]; 2], phones| {
+            stays(bytes, refusal, |bytes| {
+                Store::over(bytes).add_entry(lexicon, word, tag, phones, exact)
+            });
+        };
     let broken = Lexicon { phones: BROKEN, ..NO_WORDS };
     let (mut full, mut bad) = (new_store(1), with_count(&[7; 512], u64::MAX));
     let mut largest = with_count(&full, u64::MAX);
-    stays(&mut bad, Refusal::Section, |bytes| {
-        Store::over(bytes).add_entry(&broken, BAD_WORDS[0], "", many)
-    });
-    stays(&mut bad, Refusal::Unsound, |bytes| {
-        Store::over(bytes).add_entry(&NO_WORDS, BAD_WORDS[0], "", many)
-    });
+    run(&mut bad, Refusal::Section, &broken, [BAD_WORDS[0], b""], many);
+    run(&mut bad, Refusal::Unsound, &NO_WORDS, [BAD_WORDS[0], b""], many);
     for (word, phones) in [(BAD_WORDS[0], many), (BAD_WORDS[1], known), (b"a", many)] {
-        stays(&mut largest, Refusal::Count, |bytes| {
-            Store::over(bytes).add_entry(&NO_WORDS, word, "", phones)
-        });
+        run(&mut largest, Refusal::Count, &NO_WORDS, [word, b""], phones);
     }
     for word in BAD_WORDS {
-        stays(&mut full, Refusal::Text, |bytes| {
-            Store::over(bytes).add_entry(&NO_WORDS, word, "", many)
-        });
-        stays(&mut full, Refusal::Text, |bytes| {
-            Store::over(bytes).add_entry(&NO_WORDS, "a", word, many)
-        });
+        run(&mut full, Refusal::Text, &NO_WORDS, [word, b""], many);
+        run(&mut full, Refusal::Text, &NO_WORDS, [b"a", word], many);
     }
-    stays(&mut full, Refusal::UnknownPhone, |bytes| {
-        Store::over(bytes).add_entry(&NO_WORDS, "a", "", many)
-    });
-    stays(&mut full, Refusal::Phones, |bytes| {
-        Store::over(bytes).add_entry(&NO_WORDS, "a", "", known)
-    });
-    let none = PhoneList::from_cells(b"");
-    stays(&mut full, Refusal::Full, |bytes| Store::over(bytes).add_entry(&NO_WORDS, "a", "", none));
+    run(&mut full, Refusal::UnknownPhone, &NO_WORDS, [b"a", b""], many);
+    run(&mut full, Refusal::Phones, &NO_WORDS, [b"a", b""], known);
+    run(&mut full, Refusal::Full, &NO_WORDS, [b"a", b""], PhoneList::from_cells(b""));
 }
 
 /// A call that takes a text of entries, and tells how many lines it took.
@@ -253,7 +250,7 @@ fn a_text_at_a_line() {
     let cells = cells(&["k"]);
     for word in ["a", "b"] {
         let phones = PhoneList::from_cells(&cells);
-        Store::over(&mut after).add_entry(&NO_WORDS, word, "", phones).expect("it is added");
+        Store::over(&mut after).add_entry(&NO_WORDS, word, "", phones, false).expect("it is added");
     }
     let after = with_count(&after, u64::MAX);
     for (line, refusal) in faults {

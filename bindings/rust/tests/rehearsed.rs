@@ -70,7 +70,7 @@ fn lead_and_lead() {
     let mut add = |tag: &str, phones: &[&str]| {
         let cells = cells(phones);
         store
-            .add_entry(&NO_WORDS, "lead", tag, PhoneList::from_cells(&cells))
+            .add_entry(&NO_WORDS, "lead", tag, PhoneList::from_cells(&cells), false)
             .expect("it is added");
         found(&NO_WORDS, &store, "lead", "").expect("it was added").1
     };
@@ -97,10 +97,10 @@ fn words_of_47_and_48_bytes() {
     let mut slots = [0; 1024];
     let mut store = Store::new_store(&mut slots).expect("a store");
     let none = PhoneList::from_cells(b"");
-    assert_eq!(store.add_entry(&NO_WORDS, &long, &long, none), Ok(()));
+    assert_eq!(store.add_entry(&NO_WORDS, &long, &long, none, false), Ok(()));
     assert_eq!(found(&NO_WORDS, &store, &long, ""), Some((Source::Runtime, String::new())));
     for (word, tag) in [(&longer, &long), (&long, &longer)] {
-        let refused = store.add_entry(&NO_WORDS, word, tag, none).unwrap_err();
+        let refused = store.add_entry(&NO_WORDS, word, tag, none, false).unwrap_err();
         assert_eq!(refused.refusal, Refusal::Text);
     }
     assert!(example::SAYABLE.is_sayable(&long).is_ok());
@@ -112,8 +112,8 @@ fn entries_of_24_and_25_phones() {
     let mut slots = [0; 1024];
     let mut store = Store::new_store(&mut slots).expect("a store");
     let (long, longer) = (cells(&["k"; 24]), cells(&["k"; 25]));
-    assert_eq!(store.add_entry(&NO_WORDS, "a", "", PhoneList::from_cells(&long)), Ok(()));
-    let refused = store.add_entry(&NO_WORDS, "a", "", PhoneList::from_cells(&longer));
+    assert_eq!(store.add_entry(&NO_WORDS, "a", "", PhoneList::from_cells(&long), false), Ok(()));
+    let refused = store.add_entry(&NO_WORDS, "a", "", PhoneList::from_cells(&longer), false);
     assert_eq!(refused.unwrap_err().refusal, Refusal::Phones);
 }
 
@@ -144,11 +144,11 @@ fn nil_is_a_tag_of_its_own_in_lookup() {
     let mut store = Store::new_store(&mut slots).expect("a store");
     let cells = cells(&["k"]);
     let phones = PhoneList::from_cells(&cells);
-    store.add_entry(&NO_WORDS, "a", "v", phones).expect("it is added");
+    store.add_entry(&NO_WORDS, "a", "v", phones, false).expect("it is added");
     assert!(found(&NO_WORDS, &store, "a", "").is_some());
     assert!(found(&NO_WORDS, &store, "a", "nil").is_none());
     store
-        .add_entry(&NO_WORDS, "a", "nil", phones)
+        .add_entry(&NO_WORDS, "a", "nil", phones, false)
         .expect_err("nil is 0 in adding, and there is no slot for it");
 }
 

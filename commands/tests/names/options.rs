@@ -11,11 +11,10 @@ use crate::shelves::{two, Shelf, TWO};
 fn help_and_version_end_with_0() {
     let shelf = Shelf::without("help");
     let help = shelf.run(&["--help"]);
-    assert!(
-        help.out.starts_with("names [--tables FOLDER] [--] STORE_FILE new | list |"),
-        "{}",
-        help.out
-    );
+    let usage =
+        "names [--tables FOLDER] [--] STORE_FILE new | list | preview FILE | accept FILE | \
+        add [--exact] WORD/TAG PHONE ..\n";
+    assert!(help.out.starts_with(usage), "{}", help.out);
     assert_eq!((help.status, help.err.as_str()), (Some(0), ""));
     assert_eq!(shelf.run(&["kept", "new", "--help"]), help);
     assert_eq!(shelf.run(&["--version"]), ended(0, "names 0.1.0\n", ""));
@@ -48,6 +47,14 @@ fn wrong_use_ends_with_2() {
         (&["kept", "list", "--loud"], "there is no option --loud"),
         (&["kept", "list", "--tables"], "--tables needs a value behind it"),
         (&["--tables=a", "--tables=b", "kept", "list"], "--tables stands twice"),
+        (&["new", "new", "--exact"], "--exact goes with add"),
+        (&["kept", "list", "--exact"], "--exact goes with add"),
+        (&["kept", "preview", "--exact", "text"], "--exact goes with add"),
+        (&["--exact", "kept", "accept", "text"], "--exact goes with add"),
+        (&["kept", "show", "--exact"], &format!("{tasks}, and not \"show\"")),
+        (&["kept", "add", "--exact"], form),
+        (&["kept", "add", "--exact", "Iris"], form),
+        (&["kept", "add", "--exact=yes", "Iris", "k"], "--exact takes no value"),
     ] {
         let err = format!("names: {told}{pointer}");
         assert_eq!(shelf.run(arguments), ended(2, "", &err), "{arguments:?}");

@@ -4,7 +4,7 @@ use std::fs;
 use std::os::unix::fs::symlink;
 
 use crate::running::{altered, ended};
-use crate::shelves::{counted, slot, store, two, Shelf, IRIS, LARGEST, TWO};
+use crate::shelves::{counted, exact, slot, store, two, Shelf, IRIS, LARGEST, TWO};
 
 /// Every task but `new`, with the file `text`.
 const TASKS: [&[&str]; 4] =
@@ -40,6 +40,12 @@ fn a_file_of_wrong_bytes_is_told() {
     let shelf = Shelf::with("wrong_bytes", "");
     shelf.put("text", "iris n : k\n");
     let iris = || slot(0, b'n', "iris", IRIS);
+    let with_byte = |at: usize, byte| {
+        let mut slot = exact(0, b'n', "iris", IRIS);
+        slot[at] = byte;
+        store(1024, 0, (1, 1), &[slot])
+    };
+    let twice = [exact(2, b'n', "Iris", IRIS), exact(0, b'n', "Iris", IRIS)];
     for bytes in [
         vec![0xff; 512],
         b"Dear house electrician,\n".repeat(64),
@@ -48,6 +54,11 @@ fn a_file_of_wrong_bytes_is_told() {
         store(1536, 0, (1, 2), &[slot(2, b'n', "iris", IRIS), iris()]),
         store(1024, 0, (1, 1), &[slot(0, b'n', "IRIS", IRIS)]),
         store(1024, 0, (0, 0), &[iris()]),
+        with_byte(52, 2),
+        with_byte(52, 255),
+        with_byte(53, 1),
+        with_byte(63, 1),
+        store(1536, 0, (1, 2), &twice),
     ] {
         shelf.put("kept", &bytes);
         let told = format!("kept is refused: 2, its bytes are not as a store has them. {ANOTHER}");

@@ -25,6 +25,13 @@ pub fn slot(next: u16, tag: u8, word: &str, phones: &str) -> Vec<u8> {
     slot
 }
 
+/// The slot of an exact entry.
+pub fn exact(next: u16, tag: u8, word: &str, phones: &str) -> Vec<u8> {
+    let mut slot = slot(next, tag, word, phones);
+    slot[52] = 1;
+    slot
+}
+
 /// A store of so many bytes: its count, the numbers of the first and the last slot of the chain, and the used slots.
 pub fn store(length: usize, count: u64, ends: (u16, u16), slots: &[Vec<u8>]) -> Vec<u8> {
     let mut store = vec![0; 512];

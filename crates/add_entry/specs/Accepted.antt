@@ -3,7 +3,7 @@
 use Prim.Native.Nat.{ℕ, _+_, _/_, _<_}
 use native.Mathlib.Omega.{arith}
 use mathlib.Core.Path.{_≡_, _∙_}
-use mathlib.Core.Bool.{true, false, _&&_}
+use mathlib.Core.Bool.{Bool, true, false, _&&_}
 use mathlib.Core.List.{List}
 use lib.Dec.{eqb, ltb}
 use lib.ListN.{length}
@@ -13,7 +13,7 @@ use Rattle.texts.specs.Text.{isWord}
 use Rattle.cells.specs.Cells.{asciiPhones}
 use Rattle.data.specs.Sections.{isPhoneTable}
 use Rattle.slots_spec.specs.Slot.{Entry, Fits}
-use Rattle.store_spec.specs.Store.{entries, isSound, count, withCount, largest}
+use Rattle.store_spec.specs.Store.{entries, isSound, count, largest}
 use Rattle.store_spec.specs.Adding.{adding, added, isFull}
 use Rattle.store_spec.specs.Sound.{Sound, sound}
 use Rattle.store_spec.specs.Added.{room}
@@ -34,15 +34,15 @@ pub record Entered (b c : List ℕ) (e : Entry) : Type 0 where
   pub count : count b < largest → count c ≡ count b + 1
 
 -- what the tests say where add entry is accepted
-pub record Taken (table store word tag phones : List ℕ) : Type 0 where
+pub record Taken (table store word tag phones : List ℕ) (exact : Bool) : Type 0 where
   pub tabled : isPhoneTable table ≡ true
   pub stored : Sound store
   pub rises : eqb (count store) largest ≡ false
-  pub fits : Fits (newEntry word tag phones)
-  pub free : isFull store (newEntry word tag phones) ≡ false
+  pub fits : Fits (newEntry word tag phones exact)
+  pub free : isFull store (newEntry word tag phones exact) ≡ false
 
-module _ (table store word tag phones : List ℕ) where
-  pub taken : addEntry table store word tag phones ≡ accepted 0 0 → Taken table store word tag phones
+module _ (table store word tag phones : List ℕ) (exact : Bool) where
+  pub taken : addEntry table store word tag phones exact ≡ accepted 0 0 → Taken table store word tag phones exact
   unfolding addEntry
   taken h =
       cases (isPhoneTable table) (λ t₁. cases (isSound store) (λ t₂. cases (eqb (count store) largest)
@@ -50,9 +50,9 @@ module _ (table store word tag phones : List ℕ) where
       (λ t₁₂. cases (isWord word && isWord tag && asciiPhones phones) (λ t₃.
       cases (mayAddAll table phones) (λ t₅. cases (ltb 24 (length phones / 16))
       (λ t₇. never-accepted Phones 0 0 0 (rw (t₁, t₂, t₁₂, t₃, t₅, t₇) at h))
-      (λ t₇. cases (isFull store (newEntry word tag phones))
+      (λ t₇. cases (isFull store (newEntry word tag phones exact))
       (λ t₈. never-accepted Full 0 0 0 (rw (t₁, t₂, t₁₂, t₃, t₅, t₇, t₈) at h))
-      (λ t₈. let f = new-fits word tag phones t₃ (ltb-false 24 (length phones / 16) t₇) in
+      (λ t₈. let f = new-fits word tag phones exact t₃ (ltb-false 24 (length phones / 16) t₇) in
       record { tabled = t₁; stored = sound store t₂; rises = t₁₂; fits = f; free = t₈ })))
       (λ t₅. never-accepted UnknownPhone 0 0 0 (rw (t₁, t₂, t₁₂, t₃, t₅) at h)))
       (λ t₃. never-accepted Text 0 0 0 (rw (t₁, t₂, t₁₂, t₃) at h))))
@@ -60,7 +60,7 @@ module _ (table store word tag phones : List ℕ) where
       (λ t₁. never-accepted Section 0 0 0 (rw t₁ at h))
 
   -- an answer without a refusal has nothing else to tell
-  pub accepted-is : addEntry table store word tag phones .refusal ≡ 0 → addEntry table store word tag phones ≡ accepted 0 0
+  pub accepted-is : addEntry table store word tag phones exact .refusal ≡ 0 → addEntry table store word tag phones exact ≡ accepted 0 0
   unfolding addEntry
   accepted-is h =
       cases (isPhoneTable table) (λ t₁. cases (isSound store) (λ t₂. cases (eqb (count store) largest)
@@ -68,7 +68,7 @@ module _ (table store word tag phones : List ℕ) where
       (λ t₁₂. cases (isWord word && isWord tag && asciiPhones phones) (λ t₃.
       cases (mayAddAll table phones) (λ t₅. cases (ltb 24 (length phones / 16))
       (λ t₇. absurd (omega (arith, (rw (t₁, t₂, t₁₂, t₃, t₅, t₇) at h))))
-      (λ t₇. cases (isFull store (newEntry word tag phones))
+      (λ t₇. cases (isFull store (newEntry word tag phones exact))
       (λ t₈. absurd (omega (arith, (rw (t₁, t₂, t₁₂, t₃, t₅, t₇, t₈) at h))))
       (λ t₈. rw (t₁, t₂, t₁₂, t₃, t₅, t₇, t₈))))
       (λ t₅. absurd (omega (arith, (rw (t₁, t₂, t₁₂, t₃, t₅) at h)))))
@@ -77,11 +77,12 @@ module _ (table store word tag phones : List ℕ) where
       (λ t₁. absurd (omega (arith, (rw t₁ at h))))
 
   -- the law
-  pub add-law : addEntry table store word tag phones ≡ accepted 0 0 → Entered store (storeAfter table store word tag phones) (newEntry word tag phones)
+  pub add-law : addEntry table store word tag phones exact ≡ accepted 0 0
+      → Entered store (storeAfter table store word tag phones exact) (newEntry word tag phones exact)
   unfolding storeAfter
   add-law h =
       let t = taken h in
-      let e = newEntry word tag phones in
+      let e = newEntry word tag phones exact in
       let a = room store e (t .stored) (t .fits) (t .free) in
       let n = count store + 1 in
       rw h (record {

@@ -1,13 +1,20 @@
-// add entry (01, Lookup: Adding; the count of 02, S-2).
+// add entry (01, Lookup: Adding; the count of 02, S-2, and the exact entries of S-8).
 ghost use mathlib.Core.Path.{_≡_};
 ghost use Rattle.answers.specs.Told.{toldDone};
 ghost use Rattle.add_entry.specs.AddEntry.{addEntry, storeAfter};
 use answers::Done;
 use answers::Refusal;
 
-pub fn add_entry(table: &[u8], store: &mut [u8], word: &[u8], tag: &[u8], phones: &[u8]) -> Done
-    ensures { λ r. ⌜ toldDone r ≡ addEntry (now (table .entry)) (now (store .entry)) (now (word .entry)) (now (tag .entry)) (now (phones .entry)) ⌝ }
-    ensures { λ _. ⌜ now (store .exit) ≡ storeAfter (now (table .entry)) (now (store .entry)) (now (word .entry)) (now (tag .entry)) (now (phones .entry)) ⌝ }
+pub fn add_entry(
+    table: &[u8],
+    store: &mut [u8],
+    word: &[u8],
+    tag: &[u8],
+    phones: &[u8],
+    exact: bool,
+) -> Done
+    ensures { λ r. ⌜ toldDone r ≡ addEntry (now (table .entry)) (now (store .entry)) (now (word .entry)) (now (tag .entry)) (now (phones .entry)) exact ⌝ }
+    ensures { λ _. ⌜ now (store .exit) ≡ storeAfter (now (table .entry)) (now (store .entry)) (now (word .entry)) (now (tag .entry)) (now (phones .entry)) exact ⌝ }
 {
     if !data::is_phone_table(table) {
         return Done::Refused(Refusal::Section);
@@ -28,7 +35,7 @@ pub fn add_entry(table: &[u8], store: &mut [u8], word: &[u8], tag: &[u8], phones
     if 24 < phones.len() / 16 {
         return Done::Refused(Refusal::Phones);
     }
-    if adding::add_folded(store, adding::added_tag(tag), word, phones) {
+    if adding::add(store, adding::added_tag(tag), word, phones, exact) {
         counting::set_count(store, seen + 1);
         return Done::Accepted;
     }

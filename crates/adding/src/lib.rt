@@ -1,6 +1,6 @@
-// Adding one pronunciation (01, Lookup: Adding).
+// Adding one pronunciation (01, Lookup: Adding; exact entries: 02, S-8).
 ghost use mathlib.Core.Path.{_≡_};
-ghost use mathlib.Core.Bool.{true, not, _&&_};
+ghost use mathlib.Core.Bool.{true, false, not, _&&_};
 ghost use mathlib.Core.List.{map};
 ghost use Prim.Native.Nat.{_/_, _≤_, _<_};
 ghost use lib.ListN.{length};
@@ -10,7 +10,7 @@ ghost use Rattle.cells.specs.Cells.{asciiPhones};
 ghost use Rattle.data.specs.Sections.{isPhoneTable};
 ghost use Rattle.store_spec.specs.Store.{isSound};
 ghost use Rattle.store_spec.specs.Adding.{entryFor, isFull, kept};
-ghost use Rattle.lexicon_spec.specs.Adding.{addedTag, mayAdd, mayAddCell, mayAddAll};
+ghost use Rattle.lexicon_spec.specs.Adding.{addedTag, mayAdd, mayAddCell, mayAddAll, storedWord};
 
 // The tag that an entry gets.
 pub fn added_tag(tag: &[u8]) -> u8
@@ -73,23 +73,35 @@ pub fn are_texts(word: &[u8], tag: &[u8], phones: &[u8]) -> bool
     cells::are_ascii(phones)
 }
 
-// Folds a word into room, and adds it with its tag and phones to a sound store; whether there was a slot.
+// Folds a word into room, and adds it with its tag and phones to a sound store as an ordinary entry; whether there was a slot.
 fn add_from(room: &mut [u8], store: &mut [u8], tag: u8, word: &[u8], phones: &[u8]) -> bool
     requires { ⌜ (length (now word) ≤ length (now room)) × (isSound (now store) ≡ true) × (length (now word) ≤ 47) × (length (now phones) / 16 ≤ 24) ⌝ }
-    ensures { λ r. ⌜ r ≡ not (isFull (now (store .entry)) (entryFor tag (map folded (now (word .entry))) (now (phones .entry)))) ⌝ }
-    ensures { λ _. ⌜ now (store .exit) ≡ kept (now (store .entry)) (entryFor tag (map folded (now (word .entry))) (now (phones .entry))) ⌝ }
+    ensures { λ r. ⌜ r ≡ not (isFull (now (store .entry)) (entryFor tag (map folded (now (word .entry))) (now (phones .entry)) false)) ⌝ }
+    ensures { λ _. ⌜ now (store .exit) ≡ kept (now (store .entry)) (entryFor tag (map folded (now (word .entry))) (now (phones .entry)) false) ⌝ }
 {
     let n = word.len();
     slots::put_folded(room, 0, word);
-    store::add(store, tag, records::head(room, n), phones)
+    store::add(store, tag, records::head(room, n), phones, false)
 }
 
 // The same, with a room of its own.
 pub fn add_folded(store: &mut [u8], tag: u8, word: &[u8], phones: &[u8]) -> bool
     requires { ⌜ (isSound (now store) ≡ true) × (length (now word) ≤ 47) × (length (now phones) / 16 ≤ 24) ⌝ }
-    ensures { λ r. ⌜ r ≡ not (isFull (now (store .entry)) (entryFor tag (map folded (now (word .entry))) (now (phones .entry)))) ⌝ }
-    ensures { λ _. ⌜ now (store .exit) ≡ kept (now (store .entry)) (entryFor tag (map folded (now (word .entry))) (now (phones .entry))) ⌝ }
+    ensures { λ r. ⌜ r ≡ not (isFull (now (store .entry)) (entryFor tag (map folded (now (word .entry))) (now (phones .entry)) false)) ⌝ }
+    ensures { λ _. ⌜ now (store .exit) ≡ kept (now (store .entry)) (entryFor tag (map folded (now (word .entry))) (now (phones .entry)) false) ⌝ }
 {
     let mut room = [0u8; 47];
     add_from(&mut room, store, tag, word, phones)
+}
+
+// Adds a word, exact or ordinary, with its tag and phones to a sound store; whether there was a slot.
+pub fn add(store: &mut [u8], tag: u8, word: &[u8], phones: &[u8], exact: bool) -> bool
+    requires { ⌜ (isSound (now store) ≡ true) × (length (now word) ≤ 47) × (length (now phones) / 16 ≤ 24) ⌝ }
+    ensures { λ r. ⌜ r ≡ not (isFull (now (store .entry)) (entryFor tag (storedWord exact (now (word .entry))) (now (phones .entry)) exact)) ⌝ }
+    ensures { λ _. ⌜ now (store .exit) ≡ kept (now (store .entry)) (entryFor tag (storedWord exact (now (word .entry))) (now (phones .entry)) exact) ⌝ }
+{
+    if exact {
+        return store::add(store, tag, word, phones, true);
+    }
+    add_folded(store, tag, word, phones)
 }

@@ -1,12 +1,14 @@
--- 01, Lookup: Adding, and 02, S-2. The lines of a text in turn, up to the first fault, the entries that they add, and the spare behind them.
+-- 01, Lookup: Adding, and 02, S-2 and S-8. The lines of a text in turn, up to the first fault, the entries that they add, and the spare behind them.
 -- Assumes nothing.
 use Prim.Native.Nat.{ℕ, _+_, _-_}
+use mathlib.Core.Path.{_≡_, refl, _∙_}
+use mathlib.Core.Bool.{true}
 use mathlib.Core.List.{List, [], _∷_, _++_}
 use lib.Dec.{eqb}
 use Rattle.texts.specs.Choice.{if_then_else_, bit}
-use Rattle.texts.specs.Lists.{some}
+use Rattle.texts.specs.Lists.{some, every, every-append}
 use Rattle.lines.specs.Lines.{lines}
-use Rattle.slots_spec.specs.Slot.{Entry}
+use Rattle.slots_spec.specs.Slot.{Entry, isOrdinary}
 use Rattle.store_spec.specs.Store.{used, entries, sameKey, count, withCount, largest}
 use Rattle.store_spec.specs.Adding.{adding}
 use Rattle.answers.specs.declared.Answer.{Answer}
@@ -45,6 +47,17 @@ entriesOf (entry word tag phones) = lineEntry word tag phones ∷ []
 unfoldable pub lineEntries : List (List ℕ) → List Entry
 lineEntries [] = []
 lineEntries (l ∷ ls) = entriesOf (readLine l) ++ lineEntries ls
+
+-- none of them is exact (02, S-8)
+pub lines-ordinary : (ls : List (List ℕ)) → every isOrdinary (lineEntries ls) ≡ true
+unfolding every lineEntries entriesOf lineEntry isOrdinary
+lines-ordinary [] = refl
+lines-ordinary (l ∷ ls) = every-append isOrdinary (entriesOf (readLine l)) (lineEntries ls) ∙ rw (ordinary (readLine l)) (lines-ordinary ls)
+  where
+    ordinary : (l : Line) → every isOrdinary (entriesOf l) ≡ true
+    ordinary skipped = refl
+    ordinary faulty = refl
+    ordinary (entry word tag phones) = refl
 
 -- the adding rule for each entry in turn
 unfoldable pub addingAll : List Entry → List Entry → List Entry

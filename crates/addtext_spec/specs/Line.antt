@@ -44,7 +44,7 @@ readLine l = onContent (content l)
 
 -- the entry of a line, its word folded
 unfoldable pub lineEntry : List ℕ → List ℕ → List (List ℕ) → Entry
-lineEntry word tag phones = record { tag = addedTag tag; word = map folded word; phones = phones }
+lineEntry word tag phones = record { tag = addedTag tag; word = map folded word; phones = phones; exact = false }
 
 -- what comes of an entry line in a store: the first refusal that applies, in rank order, or it is taken; every byte of the text is below 128 by then
 unfoldable pub judged : List ℕ → List ℕ → List ℕ → List ℕ → List (List ℕ) → Outcome

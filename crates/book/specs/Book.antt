@@ -36,7 +36,8 @@ module _ (c : Sections) where
   -- what an accepted call changes
   unfoldable pub accepts : Call → Book → Book
   accepts makeSheet k = record { entries = k .entries; words = []; previewed = k .previewed }
-  accepts (addsEntry word tag cells) k = record { entries = adding (newEntry word tag cells) (k .entries); words = k .words; previewed = k .previewed }
+  accepts (addsEntry word tag cells exact) k =
+      record { entries = adding (newEntry word tag cells exact) (k .entries); words = k .words; previewed = k .previewed }
   accepts (addsText text) k = record { entries = addingAll (lineEntries (lines text)) (k .entries); words = k .words; previewed = k .previewed }
   accepts (previewsText text) k = record { entries = k .entries; words = k .words; previewed = lineEntries (lines text) }
   accepts acceptsText k = record { entries = addingAll (k .previewed) (k .entries); words = k .words; previewed = k .previewed }

@@ -19,7 +19,7 @@ use Rattle.say_word.specs.SayWord.{sayWord, sheetAfter}
 -- a call, with its arguments other than store, sheet and spare
 pub data Call : Type 0 where
   makeSheet : Call
-  addsEntry : List ℕ → List ℕ → List ℕ → Call
+  addsEntry : List ℕ → List ℕ → List ℕ → Bool → Call
   addsText : List ℕ → Call
   previewsText : List ℕ → Call
   acceptsText : Call
@@ -48,7 +48,7 @@ module _ (c : Sections) where
   -- what a call answers, and what it leaves: the definitions that the calls' contracts cite
   unfoldable pub answer : Call → Option (List ℕ) → State → Answer
   answer makeSheet other s = newSheet (s .sheet)
-  answer (addsEntry word tag phones) other s = addEntry (c .lexPhones) (s .store) word tag phones
+  answer (addsEntry word tag phones exact) other s = addEntry (c .lexPhones) (s .store) word tag phones exact
   answer (addsText text) other s = addEntries (c .lexPhones) (s .store) (found other (s .spare)) text
   answer (previewsText text) other s = previewEntries (c .lexPhones) (s .store) (s .spare) text
   answer acceptsText other s = acceptEntries (s .store) (s .spare)
@@ -56,7 +56,8 @@ module _ (c : Sections) where
 
   unfoldable pub step : Call → Option (List ℕ) → State → State
   step makeSheet other s = record { store = s .store; sheet = newBytes (s .sheet); spare = s .spare }
-  step (addsEntry word tag phones) other s = record { store = storeAfterEntry (c .lexPhones) (s .store) word tag phones; sheet = s .sheet; spare = s .spare }
+  step (addsEntry word tag phones exact) other s =
+      record { store = storeAfterEntry (c .lexPhones) (s .store) word tag phones exact; sheet = s .sheet; spare = s .spare }
   step (addsText text) other s =
       record {
         store = storeAfterText (c .lexPhones) (s .store) (found other (s .spare)) text;

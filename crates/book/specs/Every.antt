@@ -5,7 +5,7 @@
 use Prim.Native.Nat.{ℕ, _+_, _≤_, _<_}
 use native.Mathlib.Omega.{arith}
 use mathlib.Core.Path.{_≡_, refl, sym, ap, _∙_, subst}
-use mathlib.Core.Bool.{true, false, _&&_}
+use mathlib.Core.Bool.{Bool, true, false, _&&_}
 use mathlib.Core.Logic.{_≢_}
 use mathlib.Core.List.{List, [], _∷_, _++_, append-nil}
 use mathlib.Core.Option.{Option, none, some}
@@ -29,9 +29,9 @@ use Rattle.add_entry.specs.Accepted.{add-law, accepted-is}
 use Rattle.lines.specs.Lines.{lines}
 use Rattle.addtext_spec.specs.Filling.{textFilled, lineEntries, addingAll}
 use Rattle.addtext_spec.specs.Grown.{Grown}
-use Rattle.add_entries.specs.AddEntries.{addEntries, storeAfter as storeAfterText, spareAfter as spareAfterText}
-use Rattle.add_entries.specs.Ends.{Taken, Ends as TextEnds, whole as textWhole, stopped as textStopped, unread as textUnread, ends as textEnds}
-use Rattle.preview_entries.specs.PreviewEntries.{previewEntries, spareAfter as sparePreviewed}
+use Rattle.add_entries.specs.AddEntries.{spareAfter as spareAfterText}
+use Rattle.add_entries.specs.Ends.{Ends as TextEnds, whole as textWhole, stopped as textStopped, unread as textUnread, ends as textEnds}
+use Rattle.preview_entries.specs.PreviewEntries.{spareAfter as sparePreviewed}
 use Rattle.preview_entries.specs.Ends.{Ends, whole, stopped, unread, ends}
 use Rattle.accept_entries.specs.AcceptEntries.{acceptEntries, storeAfter as storeAccepted}
 use Rattle.accept_entries.specs.Accepted.{accept-law}
@@ -46,7 +46,7 @@ use Rattle.answers.specs.declared.Answer.{Answer}
 use Rattle.pipeline_spec.specs.Pronounced.{Sections, Spoken, barred, phones, pronounced, said}
 use Rattle.pipeline_spec.specs.Placing.{isCrowded, onSpoken as onSpokenAnswer, withSpoken}
 use Rattle.say_word.specs.SayWord.{sayWord, sheetAfter}
-use Rattle.book.specs.Calls.{Call, makeSheet, addsEntry, addsText, previewsText, acceptsText, saysWord, Made, State, found, carried, answer, step, isRefused, leaves, fresh}
+use Rattle.book.specs.Calls.{Call, makeSheet, addsEntry, addsText, previewsText, acceptsText, saysWord, Made, State, answer, step, isRefused, leaves, fresh}
 use Rattle.book.specs.Book.{Book, empty, onSpoken, accepts, keeps, hears}
 use Rattle.pipeline_spec.specs.Laws.Sources.{entries-fit}
 use Rattle.pipeline_spec.specs.Laws.Fits.{pronounced-fits}
@@ -109,23 +109,23 @@ module _ (c : Sections) (s : State) (k : Book) (a : Agrees s k) where
         cut = tt;
       })
 
-  adds : (word tag cells : List ℕ) (other : Option (List ℕ)) → After (addsEntry word tag cells) other
+  adds : (word tag cells : List ℕ) (exact : Bool) (other : Option (List ℕ)) → After (addsEntry word tag cells exact) other
   unfolding answer step accepts
-  adds word tag cells other =
-      cases (eqb (addEntry (c .lexPhones) (s .store) word tag cells .refusal) 0)
-      (λ e. let r = eqb-true (addEntry (c .lexPhones) (s .store) word tag cells .refusal) 0 e in
-      let h = add-law (c .lexPhones) (s .store) word tag cells (accepted-is (c .lexPhones) (s .store) word tag cells r) in
+  adds word tag cells exact other =
+      cases (eqb (addEntry (c .lexPhones) (s .store) word tag cells exact .refusal) 0)
+      (λ e. let r = eqb-true (addEntry (c .lexPhones) (s .store) word tag cells exact .refusal) 0 e in
+      let h = add-law (c .lexPhones) (s .store) word tag cells exact (accepted-is (c .lexPhones) (s .store) word tag cells exact r) in
       let n = below (count (s .store)) (a .stand .bound) (h .rises) in
       rw e (record {
         store = h .sound;
         alike = a .alike ∙ sym (h .length);
         stand = rw (h .count (n .1)) (raised (count (s .store)) (count (s .spare)) (a .stand) (n .0));
-        entries = h .entries ∙ ap (λ (es : List Entry). adding (newEntry word tag cells) es) (a .entries);
+        entries = h .entries ∙ ap (λ (es : List Entry). adding (newEntry word tag cells exact) es) (a .entries);
         sheet = a .sheet;
         words = a .words;
         cut = a .cut;
       }))
-      (λ e. let z : storeAfter (c .lexPhones) (s .store) word tag cells ≡ s .store = unfold storeAfter in rw e in
+      (λ e. let z : storeAfter (c .lexPhones) (s .store) word tag cells exact ≡ s .store = unfold storeAfter in rw e in
       rw (e, z) a)
 
   -- a store that was raised by bytes that a text filled, beside the list's own spare or the filled one
@@ -270,7 +270,7 @@ module _ (c : Sections) (s : State) (k : Book) (a : Agrees s k) where
 
   each-call : (call : Call) (other : Option (List ℕ)) → After call other
   each-call makeSheet other = makes other
-  each-call (addsEntry word tag cells) other = adds word tag cells other
+  each-call (addsEntry word tag cells exact) other = adds word tag cells exact other
   each-call (addsText text) other = texts text other
   each-call (previewsText text) other = previews text other
   each-call acceptsText other = takes other

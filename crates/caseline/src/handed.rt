@@ -60,6 +60,18 @@ pub fn arguments(line: &[u8], n: usize, regs: &[u8], room: &mut [u8]) -> Given
     Given { ok, ends }
 }
 
+// An argument that says yes, and one that says yes or no: the byte 1, or 0.
+pub fn is_yes(argument: &[u8]) -> bool {
+    texts::same(argument, b"\x01")
+}
+
+pub fn is_yes_or_no(argument: &[u8]) -> bool {
+    if is_yes(argument) {
+        return true;
+    }
+    texts::same(argument, b"\x00")
+}
+
 // Argument k, counted from 0.
 pub fn argument(room: &[u8], given: Given, k: usize) -> &[u8] {
     if k < 11 {

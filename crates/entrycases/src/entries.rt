@@ -42,17 +42,21 @@ fn add_entry_on(line: &[u8], regs: &[u8], room: &mut [u8], given: Given, store: 
         caseline::argument(room, given, 2),
         caseline::argument(room, given, 3),
         caseline::argument(room, given, 4),
+        caseline::is_yes(caseline::argument(room, given, 5)),
     );
-    if !caseline::agrees(answers::told_done(a), line, 7) {
+    if !caseline::agrees(answers::told_done(a), line, 8) {
         return false;
     }
-    caseline::as_told(store, line, 10, regs, room, given, 1)
+    caseline::as_told(store, line, 11, regs, room, given, 1)
 }
 
-// add_entry PHONES STORE WORD TAG CELLS -> REFUSAL KIND VALUE STORE
+// add_entry PHONES STORE WORD TAG CELLS EXACT -> REFUSAL KIND VALUE STORE
 pub fn run_add_entry(line: &[u8], regs: &[u8], room: &mut [u8], out: &mut [u8]) -> bool {
-    let given = caseline::arguments(line, 5, regs, room);
+    let given = caseline::arguments(line, 6, regs, room);
     if !given.ok {
+        return false;
+    }
+    if !caseline::is_yes_or_no(caseline::argument(room, given, 5)) {
         return false;
     }
     let n = caseline::load(out, caseline::argument(room, given, 1));

@@ -73,7 +73,7 @@ fn word(k: usize) -> [u8; 2] {
 // The refusal of an entry of word k without phones, 0 where it is added.
 fn add_word(phones: &[u8], store: &mut [u8], k: usize, tag: &[u8]) -> u32 {
     let w = word(k);
-    let a = add_entry::add_entry(phones, store, &w, tag, b"");
+    let a = add_entry::add_entry(phones, store, &w, tag, b"", false);
     answers::told_done(a).refusal
 }
 

@@ -25,6 +25,7 @@ fn has_key(store: &[u8], m: usize, p: usize, n: usize) -> bool
         }
         if store::is_wanted(
             store::slot(store, q),
+            slots::is_exact(wanted),
             false,
             slots::word(wanted),
             slots::tag(wanted),

@@ -1,43 +1,68 @@
-// Looking a word up (01, Lookup): runtime entries, then the addenda, then the compiled entries.
+// Looking a word up (01, Lookup; the exact entries of 02, S-8): runtime entries, then the addenda, then the compiled entries.
 ghost use mathlib.Core.Path.{_≡_};
-ghost use mathlib.Core.Bool.{true};
+ghost use mathlib.Core.Bool.{true, false};
 ghost use mathlib.Core.List.{map, _++_};
 ghost use Prim.Native.Nat.{_*_, _/_, _≤_, _<_};
 ghost use lib.ListN.{length, getD, drop};
+ghost use Rattle.texts.specs.Lists.{first};
 ghost use Rattle.texts.specs.Text.{folded};
 ghost use Rattle.cells.specs.Cells.{phonesOf, cellsOf};
 ghost use Rattle.data.specs.Places.{Placed};
 ghost use Rattle.data.specs.Sections.{isPhoneTable};
 ghost use Rattle.addenda.specs.Addenda.{addenda, noAddendum};
-ghost use Rattle.store_spec.specs.Store.{isSound, isWanted, next as nextOf, used as usedOf, entries};
-ghost use Rattle.store_spec.specs.Adding.{seek as seekOf};
+ghost use Rattle.store_spec.specs.Store.{isSound, isWanted, entries};
+ghost use Rattle.store_spec.specs.Laws.Found.{foundAt};
 ghost use Rattle.compiled_spec.specs.Lexicon.{isLexicon};
 ghost use Rattle.compiled_spec.specs.Entries.{isSpoken, entryPhones};
 ghost use Rattle.answers.specs.Told.{toldLooked};
 ghost use Rattle.answers.specs.declared.Source.the-variants.{Runtime, Addenda};
-ghost use Rattle.lexicon_spec.specs.Lookup.{found, spoken, find as findOf, fromCompiled, toldFinding, outFinding};
+ghost use Rattle.lexicon_spec.specs.Lookup.{found, spoken, chosenEntry, find as findOf, fromCompiled, toldFinding, outFinding};
 use answers::Looked;
 use answers::Refusal;
 use answers::Source;
 use compiled_spec::Chosen;
 
-// The slot of the first runtime entry that is wanted, 0 where there is none; room is for the folded word.
-fn runtime_in(room: &mut [u8], store: &[u8], word: &[u8], tag: u8) -> usize
-    requires { ⌜ length (now word) ≤ length (now room) ⌝ }
-    ensures { λ r. ⌜ (r ≡ nextOf (now (store .entry)) (seekOf (now (store .entry)) (isWanted true (map folded (now (word .entry))) tag) (usedOf (now (store .entry))) 0)) × (r < 65536) ⌝ }
+// The slot of the oldest entry of a sound store with this word, exact or ordinary, whose tag agrees; 0 where there is none.
+fn oldest(store: &[u8], exact: bool, word: &[u8], tag: u8) -> usize
+    requires { ⌜ isSound (now store) ≡ true ⌝ }
+    ensures { λ r. ⌜ (foundAt (now (store .entry)) r ≡ first (isWanted exact true (now (word .entry)) tag) (entries (now (store .entry)))) × (r < 65536) ⌝ }
 {
-    let n = word.len();
-    slots::put_folded(room, 0, word);
-    let p = store::seek(store, store::used(store), true, records::head(room, n), tag);
+    let p = store::seek(store, store::used(store), exact, true, word, tag);
     store::next(store, p)
 }
 
-fn runtime(store: &[u8], word: &[u8], tag: u8) -> usize
-    requires { ⌜ length (now word) ≤ 47 ⌝ }
-    ensures { λ r. ⌜ (r ≡ nextOf (now (store .entry)) (seekOf (now (store .entry)) (isWanted true (map folded (now (word .entry))) tag) (usedOf (now (store .entry))) 0)) × (r < 65536) ⌝ }
+// The slot of the oldest ordinary one, folded against folded; room is for the folded word.
+fn ordinary_in(room: &mut [u8], store: &[u8], word: &[u8], tag: u8) -> usize
+    requires { ⌜ (isSound (now store) ≡ true) × (length (now word) ≤ length (now room)) ⌝ }
+    ensures { λ r. ⌜ (foundAt (now (store .entry)) r ≡ first (isWanted false true (map folded (now (word .entry))) tag) (entries (now (store .entry)))) × (r < 65536) ⌝ }
 {
+    let n = word.len();
+    slots::put_folded(room, 0, word);
+    oldest(store, false, records::head(room, n), tag)
+}
+
+// The slot of the oldest exact one; a store without exact entries is not searched in order.
+fn oldest_exact(store: &[u8], word: &[u8], tag: u8) -> usize
+    requires { ⌜ isSound (now store) ≡ true ⌝ }
+    ensures { λ r. ⌜ (foundAt (now (store .entry)) r ≡ first (isWanted true true (now (word .entry)) tag) (entries (now (store .entry)))) × (r < 65536) ⌝ }
+{
+    if store::has_exact(store, store::used(store)) {
+        return oldest(store, true, word, tag);
+    }
+    0
+}
+
+// The slot of the runtime entry that answers, 0 where there is none.
+fn runtime(store: &[u8], word: &[u8], tag: u8) -> usize
+    requires { ⌜ (isSound (now store) ≡ true) × (length (now word) ≤ 47) ⌝ }
+    ensures { λ r. ⌜ (foundAt (now (store .entry)) r ≡ chosenEntry (entries (now (store .entry))) (now (word .entry)) tag) × (r < 65536) ⌝ }
+{
+    let n = oldest_exact(store, word, tag);
+    if n != 0 {
+        return n;
+    }
     let mut room = [0u8; 47];
-    runtime_in(&mut room, store, word, tag)
+    ordinary_in(&mut room, store, word, tag)
 }
 
 // The phones in cells as an answer.

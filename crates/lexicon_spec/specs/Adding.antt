@@ -1,4 +1,4 @@
--- 01, Lookup: Adding. What may be added, and the entry that it makes.
+-- 01, Lookup: Adding, and 02, S-8. What may be added, and the entry that it makes.
 -- Assumes nothing.
 use Prim.Native.Nat.{ℕ}
 use mathlib.Core.Bool.{Bool, _&&_, _||_}
@@ -29,6 +29,10 @@ mayAddCell table c = shortCell c && mayAdd table (text c)
 unfoldable pub mayAddAll : List ℕ → List ℕ → Bool
 mayAddAll table phones = every (mayAddCell table) (records 16 phones)
 
--- the entry to be added, its word folded
-unfoldable pub newEntry : List ℕ → List ℕ → List ℕ → Entry
-newEntry word tag phones = entryFor (addedTag tag) (map folded word) phones
+-- a word as it is stored: that of an exact entry as it is, any other folded
+unfoldable pub storedWord : Bool → List ℕ → List ℕ
+storedWord exact word = if exact then word else map folded word
+
+-- the entry to be added
+unfoldable pub newEntry : List ℕ → List ℕ → List ℕ → Bool → Entry
+newEntry word tag phones exact = entryFor (addedTag tag) (storedWord exact word) phones exact

@@ -1,9 +1,10 @@
--- 01, Lookup: runtime entries, oldest first; then the addenda; then the compiled entries. what a lookup comes to, and refusals 6, 7 and 9.
+-- 01, Lookup, and 02, S-8: runtime entries, exact ones first and the oldest first; then the addenda; then the compiled entries.
+-- What a lookup comes to, and refusals 6, 7 and 9.
 -- Assumes nothing.
 use Prim.Native.Nat.{ℕ, _*_, _≤_, _<_}
 use native.Mathlib.Omega.{arith}
 use mathlib.Core.Path.{_≡_}
-use mathlib.Core.Bool.{true}
+use mathlib.Core.Bool.{true, false}
 use mathlib.Core.List.{List, _++_, map}
 use mathlib.Core.Option.{Option, none, some}
 use lib.Dec.{ltb}
@@ -37,6 +38,15 @@ pub data Finding : Type 0 where
 unfoldable pub wantedTag : List ℕ → ℕ
 wantedTag tag = getD tag 0 48
 
+-- the first of two that is there
+abbrev pub orElse : Option Entry → Option Entry → Option Entry
+orElse (some e) other = some e
+orElse none other = other
+
+-- the oldest exact entry of the word's own bytes whose tag agrees; failing that, the oldest ordinary one, folded against folded
+unfoldable pub chosenEntry : List Entry → List ℕ → ℕ → Option Entry
+chosenEntry es word tag = orElse (first (isWanted true true word tag) es) (first (isWanted false true (map folded word) tag) es)
+
 abbrev pub onEntry : Option Entry → Finding → Finding
 onEntry (some e) rest = found Runtime (e .phones)
 onEntry none rest = rest
@@ -58,19 +68,19 @@ onChosen phones index dat (At i) = spoken phones (entryAt index dat i)
 unfoldable pub fromCompiled : List ℕ → List ℕ → List ℕ → List ℕ → ℕ → Finding
 fromCompiled phones index dat word tag = onChosen phones index dat (chosen index dat word tag)
 
--- a word, looked up among runtime entries, folded against folded; then the addenda, unfolded; then the compiled entries
+-- a word, looked up among runtime entries; then the addenda, unfolded; then the compiled entries
 unfoldable pub find : List Entry → List ℕ → List ℕ → List ℕ → List ℕ → ℕ → Finding
 find es phones index dat word tag =
-    onEntry (first (isWanted true (map folded word) tag) es)
+    onEntry (chosenEntry es word tag)
     (onRow (first (isMeant word tag) addenda) (fromCompiled phones index dat word tag))
 
 -- the first of the three that has the word decides
 module _ (es : List Entry) (phones index dat word : List ℕ) (tag : ℕ) where
-  pub find-runtime : (e : Entry) → first (isWanted true (map folded word) tag) es ≡ some e → find es phones index dat word tag ≡ found Runtime (e .phones)
+  pub find-runtime : (e : Entry) → chosenEntry es word tag ≡ some e → find es phones index dat word tag ≡ found Runtime (e .phones)
   unfolding find
   find-runtime e h = rw h
 
-  module _ (no : first (isWanted true (map folded word) tag) es ≡ none) where
+  module _ (no : chosenEntry es word tag ≡ none) where
     pub find-row : (n : ℕ) → n ≡ place (isMeant word tag) addenda → n < 42 → find es phones index dat word tag ≡ found Addenda (getD addenda n noAddendum .phones)
     unfolding find
     find-row n e h =

@@ -4,18 +4,18 @@ use Prim.Native.Nat.{ℕ, zero, suc, _-_, _*_, _≤_, _<_}
 use native.Mathlib.Omega.{arith}
 use mathlib.Core.Path.{_≡_, refl, ap}
 use mathlib.Core.Bool.{Bool, true, false, _&&_}
-use mathlib.Core.List.{List, [], _∷_, map}
+use mathlib.Core.List.{List, [], _∷_}
 use mathlib.Core.Option.{Option, none, some}
 use lib.Dec.{eqb, ltb}
 use lib.ListN.{length, getD}
 use borrow.Author.Tests.{ltb-true, ltb-false, eqb-true, eq-eqb}
 use Rattle.texts.specs.Choice.{cases, never, both-true}
 use Rattle.texts.specs.Lists.{every, some as any, place, first, place-le, upTo, length-from, getD-from}
-use Rattle.texts.specs.Text.{folded, isWord, same-true, eq-same}
+use Rattle.texts.specs.Text.{isWord, same-true, eq-same}
 use Rattle.addenda.specs.Addenda.{Addendum, addenda}
 use Rattle.addenda.specs.Find.{isMeant}
 use Rattle.slots_spec.specs.Slot.{Entry}
-use Rattle.store_spec.specs.Store.{isWanted, isSound, entries}
+use Rattle.store_spec.specs.Store.{isSound, entries}
 use Rattle.store_spec.specs.Laws.Keys.{either-false}
 use Rattle.compiled_spec.specs.Entries.{tagOf, wordOf, isWhole, isSpoken, entryPhones, count, entryAt}
 use Rattle.compiled_spec.specs.Laws.Numbers.{below-at}
@@ -26,7 +26,7 @@ use Rattle.check_lexicon.specs.Yes.{yes-checked, yes-first}
 use Rattle.answers.specs.declared.Answer.{Answer}
 use Rattle.answers.specs.declared.Source.the-variants.{Compiled}
 use Rattle.answers.specs.Told.{accepted}
-use Rattle.lexicon_spec.specs.Lookup.{Finding, nothing, damaged, found, wantedTag, onEntry, onRow, fromCompiled, find, toldFinding, outFinding}
+use Rattle.lexicon_spec.specs.Lookup.{chosenEntry, Finding, nothing, damaged, found, wantedTag, onEntry, onRow, fromCompiled, find, toldFinding, outFinding}
 use Rattle.lookup.specs.Lookup.{lookup, lookedUp, lookup-on-entries}
 
 module _ (index dat word : List ℕ) where
@@ -215,7 +215,7 @@ module _ (phones index dat : List ℕ) (checked : checkLexicon phones index dat 
   pub find-undamaged : (es : List Entry) (word : List ℕ) (tag : ℕ) → Undamaged (find es phones index dat word tag)
   unfolding find
   find-undamaged es word tag =
-      entry-undamaged (first (isWanted true (map folded word) tag) es) (onRow (first (isMeant word tag) addenda) (fromCompiled phones index dat word tag))
+      entry-undamaged (chosenEntry es word tag) (onRow (first (isMeant word tag) addenda) (fromCompiled phones index dat word tag))
       (row-undamaged (first (isMeant word tag) addenda) (fromCompiled phones index dat word tag)
       (answers-undamaged word tag (fromCompiled phones index dat word tag) (compiled-answers word tag)))
 
@@ -232,13 +232,13 @@ module _ (phones index dat : List ℕ) (checked : checkLexicon phones index dat 
 
     -- a word that no runtime entry and no row of the addenda has: lookup's answer, and its output at exit, are those of that finding
     pub checked-lookup : isSound store ≡ true → (isWord word && isWord tag) ≡ true
-        → any (isWanted true (map folded word) (wantedTag tag)) (entries store) ≡ false → any (isMeant word (wantedTag tag)) addenda ≡ false
+        → chosenEntry (entries store) word (wantedTag tag) ≡ none → any (isMeant word (wantedTag tag)) addenda ≡ false
         → (f : Finding) → Answers phones index dat word (wantedTag tag) f
         → (lookup phones index dat store word tag out ≡ toldFinding f out) × (lookedUp phones index dat store word tag out ≡ outFinding f out)
     unfolding find
     checked-lookup s w r a f h =
         let l = lookup-on-entries phones index dat store word tag out lexicon s w in
         let e : find (entries store) phones index dat word (wantedTag tag) ≡ fromCompiled phones index dat word (wantedTag tag) =
-        rw (first-never (isWanted true (map folded word) (wantedTag tag)) (entries store) r, first-never (isMeant word (wantedTag tag)) addenda a) in
+        rw (r, first-never (isMeant word (wantedTag tag)) addenda a) in
         let o = answers-one phones index dat word (wantedTag tag) (fromCompiled phones index dat word (wantedTag tag)) f (compiled-answers word (wantedTag tag)) h in
         (rw (e, o) at (l .0), rw (e, o) at (l .1))

@@ -92,7 +92,7 @@ pub extern "C" fn pronouncer_new_store(store: &mut [u8]) -> Answer
     answers::told_done(new_store::new_store(store))
 }
 
-// lex.phones, a store, a word, a tag, a phone list
+// lex.phones, a store, a word, a tag, a phone list, whether the entry is exact
 #[no_mangle]
 pub extern "C" fn pronouncer_add_entry(
     table: &[u8],
@@ -100,11 +100,12 @@ pub extern "C" fn pronouncer_add_entry(
     word: &[u8],
     tag: &[u8],
     phones: &[u8],
+    exact: bool,
 ) -> Answer
-    ensures { λ r. ⌜ r ≡ addEntry (now (table .entry)) (now (store .entry)) (now (word .entry)) (now (tag .entry)) (now (phones .entry)) ⌝ }
-    ensures { λ _. ⌜ now (store .exit) ≡ storeAfter (now (table .entry)) (now (store .entry)) (now (word .entry)) (now (tag .entry)) (now (phones .entry)) ⌝ }
+    ensures { λ r. ⌜ r ≡ addEntry (now (table .entry)) (now (store .entry)) (now (word .entry)) (now (tag .entry)) (now (phones .entry)) exact ⌝ }
+    ensures { λ _. ⌜ now (store .exit) ≡ storeAfter (now (table .entry)) (now (store .entry)) (now (word .entry)) (now (tag .entry)) (now (phones .entry)) exact ⌝ }
 {
-    answers::told_done(add_entry::add_entry(table, store, word, tag, phones))
+    answers::told_done(add_entry::add_entry(table, store, word, tag, phones, exact))
 }
 
 // lex.phones, a store, a spare, a text

@@ -29,25 +29,27 @@ use Rattle.add_entry.specs.Accepted.{add-law}
 use Rattle.lexicon_spec.specs.Lookup.{Finding, found, find, wantedTag, toldFinding, outFinding, found-fits}
 use Rattle.lookup.specs.Lookup.{lookup, lookedUp, lookup-on-entries}
 
--- an entry to be added: a word, a tag, its phones as cells
+-- an entry to be added: a word, a tag, its phones as cells, and whether it is exact
 pub record Add : Type 0 where
   pub word : List ℕ
   pub tag : List ℕ
   pub phones : List ℕ
+  pub exact : Bool
 
 -- the store after some adds, and that each was accepted
 unfoldable pub grown : List ℕ → List ℕ → List Add → List ℕ
 grown table store [] = store
-grown table store (a ∷ more) = grown table (storeAfter table store (a .word) (a .tag) (a .phones)) more
+grown table store (a ∷ more) = grown table (storeAfter table store (a .word) (a .tag) (a .phones) (a .exact)) more
 
 abbrev pub AllAccepted : List ℕ → List ℕ → List Add → Type 0
 AllAccepted table store [] = Unit {0}
-AllAccepted table store (a ∷ more) = (addEntry table store (a .word) (a .tag) (a .phones) ≡ accepted 0 0) × AllAccepted table (storeAfter table store (a .word) (a .tag) (a .phones)) more
+AllAccepted table store (a ∷ more) =
+    (addEntry table store (a .word) (a .tag) (a .phones) (a .exact) ≡ accepted 0 0) × AllAccepted table (storeAfter table store (a .word) (a .tag) (a .phones) (a .exact)) more
 
 -- the entries that they make
 unfoldable pub book : List Entry → List Add → List Entry
 book es [] = es
-book es (a ∷ more) = book (adding (newEntry (a .word) (a .tag) (a .phones)) es) more
+book es (a ∷ more) = book (adding (newEntry (a .word) (a .tag) (a .phones) (a .exact)) es) more
 
 -- a cell with one of the 50 phones may be added, whatever the table
 unfoldable pub isOwn : List ℕ → Bool
@@ -77,7 +79,7 @@ length-adding e es = let h = length-without e es in simp length-append (omega ar
 
 -- a plain entry is accepted where there is a slot and the count can rise
 add-plain : (table store : List ℕ) (a : Add) → isPhoneTable table ≡ true → (s : Sound store) → isPlain a ≡ true → length (entries store) + 1 < slots store
-    → count store < largest → addEntry table store (a .word) (a .tag) (a .phones) ≡ accepted 0 0
+    → count store < largest → addEntry table store (a .word) (a .tag) (a .phones) (a .exact) ≡ accepted 0 0
 unfolding isPlain addEntry mayAddAll isFull
 add-plain table store a t s p room below =
     let b = both-true ((isWord (a .word) && isWord (a .tag) && asciiPhones (a .phones)) && every isOwn (records 16 (a .phones))) (not (ltb 24 (length (a .phones) / 16))) p in
@@ -86,7 +88,7 @@ add-plain table store a t s p room below =
     let c = ne-eqb (count store) largest (λ e. absurd (omega arith)) in
     let f = not-true (ltb 24 (length (a .phones) / 16)) (b .1) in
     let l = lt-leb (slots store) (used store + 1) (omega arith) in
-    cases (some (sameKey (newEntry (a .word) (a .tag) (a .phones))) (entries store))
+    cases (some (sameKey (newEntry (a .word) (a .tag) (a .phones) (a .exact))) (entries store))
     (λ k. rw (t, is-sound store s, c, d .0, own-cells table (records 16 (a .phones)) (d .1), f, k))
     (λ k. rw (t, is-sound store s, c, d .0, own-cells table (records 16 (a .phones)) (d .1), f, k, l))
 
@@ -103,12 +105,13 @@ grow table store [] t s p room low = record { taken = tt; sound = s; holds = ref
 grow table store (a ∷ more) t s p room low =
     let b = both-true (isPlain a) (every isPlain more) p in
     let h = add-plain table store a t s (b .0) (omega arith) (omega arith) in
-    let l = add-law table store (a .word) (a .tag) (a .phones) h in
-    let n = length-adding (newEntry (a .word) (a .tag) (a .phones)) (entries store) in
-    let k : slots (storeAfter table store (a .word) (a .tag) (a .phones)) ≡ slots store = ap (λ (m : ℕ). m / 512) (l .length) in
-    let e : length (entries (storeAfter table store (a .word) (a .tag) (a .phones))) ≡ length (adding (newEntry (a .word) (a .tag) (a .phones)) (entries store)) = ap (λ (es : List Entry). length es) (l .entries) in
+    let l = add-law table store (a .word) (a .tag) (a .phones) (a .exact) h in
+    let n = length-adding (newEntry (a .word) (a .tag) (a .phones) (a .exact)) (entries store) in
+    let k : slots (storeAfter table store (a .word) (a .tag) (a .phones) (a .exact)) ≡ slots store = ap (λ (m : ℕ). m / 512) (l .length) in
+    let e : length (entries (storeAfter table store (a .word) (a .tag) (a .phones) (a .exact)))
+    ≡ length (adding (newEntry (a .word) (a .tag) (a .phones) (a .exact)) (entries store)) = ap (λ (es : List Entry). length es) (l .entries) in
     let c = l .count (omega arith) in
-    let g = grow table (storeAfter table store (a .word) (a .tag) (a .phones)) more t (l .sound) (b .1) (omega arith) (omega arith) in
+    let g = grow table (storeAfter table store (a .word) (a .tag) (a .phones) (a .exact)) more t (l .sound) (b .1) (omega arith) (omega arith) in
     record { taken = (h, g .taken); sound = g .sound; holds = g .holds ∙ ap (λ (es : List Entry). book es more) (l .entries) }
 
 -- phones that are found are answered where the output has room

@@ -4,7 +4,7 @@ use Prim.Native.Nat.{ℕ, _-_, _*_, _/_, _≤_, _<_, zero-le}
 use native.Mathlib.Omega.{arith}
 use Prim.Native.String.{String}
 use mathlib.Core.Path.{_≡_, refl, ap, _∙_}
-use mathlib.Core.Bool.{true}
+use mathlib.Core.Bool.{true, false}
 use mathlib.Core.List.{List, [], _∷_, _++_, map}
 use lib.ListN.{length, drop}
 use mathlib.Core.Option.{some}
@@ -30,8 +30,8 @@ use Rattle.store_spec.specs.Adding.{adding, without, entryFor}
 use Rattle.store_spec.specs.Result.{few as fewSlots}
 use Rattle.new_store.specs.Fresh.{fresh, length-fresh, fresh-sound, fresh-entries, fresh-count}
 use Rattle.compiled_spec.specs.Lexicon.{isLexicon, lexicon-table}
-use Rattle.lexicon_spec.specs.Adding.{newEntry, addedTag}
-use Rattle.lexicon_spec.specs.Lookup.{found, find, wantedTag}
+use Rattle.lexicon_spec.specs.Adding.{storedWord, newEntry, addedTag}
+use Rattle.lexicon_spec.specs.Lookup.{found, chosenEntry, find, wantedTag}
 use Rattle.lookup.specs.Lookup.{lookup, lookedUp}
 use Rattle.answers.specs.declared.Source.{Source}
 use Rattle.answers.specs.declared.Source.the-variants.{Runtime, Addenda}
@@ -79,9 +79,19 @@ abbrev pub Each : List Case → Type 0
 Each [] = Unit
 Each (c ∷ cs) = Holds c × Each cs
 
--- an entry to be added: a word, a tag, its phones
+-- an entry to be added: a word, a tag, its phones; ordinary, and exact (02, S-8)
 abbrev entry : String → String → List String → Add
-entry w t ps = record { word = bytes w; tag = bytes t; phones = cellsOf (map bytes ps) }
+entry w t ps = record { word = bytes w; tag = bytes t; phones = cellsOf (map bytes ps); exact = false }
+
+abbrev exactly : String → String → List String → Add
+exactly w t ps = record { word = bytes w; tag = bytes t; phones = cellsOf (map bytes ps); exact = true }
+
+-- to polish, and what comes from Poland
+abbrev toPolish : Add
+toPolish = entry "Polish" "" ("p" ∷ "aa" ∷ "l" ∷ "ih" ∷ "sh" ∷ [])
+
+abbrev fromPoland : Add
+fromPoland = exactly "Polish" "" ("p" ∷ "ow" ∷ "l" ∷ "ih" ∷ "sh" ∷ [])
 
 unfoldable pub cases : List Case
 cases =
@@ -102,6 +112,8 @@ cases =
     looked (entry "lead" "v" ("l" ∷ "iy" ∷ "d" ∷ []) ∷ entry "lead" "n" ("l" ∷ "eh" ∷ "d" ∷ []) ∷ []) "lead" Runtime ("l" ∷ "iy" ∷ "d" ∷ []) ∷
     looked (entry "lead" "v" ("l" ∷ "iy" ∷ "d" ∷ []) ∷ entry "lead" "n" ("l" ∷ "eh" ∷ "d" ∷ []) ∷ entry "lead" "v" ("l" ∷ "iy" ∷ "d" ∷ []) ∷ [])
     "lead" Runtime ("l" ∷ "eh" ∷ "d" ∷ []) ∷
+    looked (toPolish ∷ fromPoland ∷ []) "Polish" Runtime ("p" ∷ "ow" ∷ "l" ∷ "ih" ∷ "sh" ∷ []) ∷
+    looked (fromPoland ∷ toPolish ∷ []) "POLISH" Runtime ("p" ∷ "aa" ∷ "l" ∷ "ih" ∷ "sh" ∷ []) ∷
     []
 
 -- a word without letters behind its last "#" needs no tree
@@ -136,7 +148,7 @@ plain adds word s ps p w f few lex-phones lex-index lex-data b out l n room fits
     rw n (g .taken, a .0, a .1)
 
 pub rehearsed : Each cases
-unfolding cases syllabify syllabified phonesOf cellsOf cell text records firstRecords asciiPhones shortPhones shortCell ascii low every any same is place phones rowOf isVowel onsets isOnset marksOf cut joined lastByte isStressed stress bare isWord folded letters stopped behindLast upTo padded isPlain isOwn isKnown book find first isWanted isMeant addenda agree newEntry entryFor addedTag adding without sameKey
+unfolding cases syllabify syllabified phonesOf cellsOf cell text records firstRecords asciiPhones shortPhones shortCell ascii low every any same is place phones rowOf isVowel onsets isOnset marksOf cut joined lastByte isStressed stress bare isWord folded letters stopped behindLast upTo padded isPlain isOwn isKnown book find first isWanted isMeant addenda agree chosenEntry storedWord newEntry entryFor addedTag adding without sameKey
 rehearsed = (
   (refl, refl),
   (
@@ -167,7 +179,13 @@ rehearsed = (
                             plain [] (bytes ",") Addenda [] refl refl (λ p i d. refl) (omega arith),
                             (
                               plain (entry "lead" "v" ("l" ∷ "iy" ∷ "d" ∷ []) ∷ entry "lead" "n" ("l" ∷ "eh" ∷ "d" ∷ []) ∷ []) (bytes "lead") Runtime (map bytes ("l" ∷ "iy" ∷ "d" ∷ [])) refl refl (λ p i d. refl) (omega arith),
-                              (plain (entry "lead" "v" ("l" ∷ "iy" ∷ "d" ∷ []) ∷ entry "lead" "n" ("l" ∷ "eh" ∷ "d" ∷ []) ∷ entry "lead" "v" ("l" ∷ "iy" ∷ "d" ∷ []) ∷ []) (bytes "lead") Runtime (map bytes ("l" ∷ "eh" ∷ "d" ∷ [])) refl refl (λ p i d. refl) (omega arith), tt),
+                              (
+                                plain (entry "lead" "v" ("l" ∷ "iy" ∷ "d" ∷ []) ∷ entry "lead" "n" ("l" ∷ "eh" ∷ "d" ∷ []) ∷ entry "lead" "v" ("l" ∷ "iy" ∷ "d" ∷ []) ∷ []) (bytes "lead") Runtime (map bytes ("l" ∷ "eh" ∷ "d" ∷ [])) refl refl (λ p i d. refl) (omega arith),
+                                (
+                                  plain (toPolish ∷ fromPoland ∷ []) (bytes "Polish") Runtime (map bytes ("p" ∷ "ow" ∷ "l" ∷ "ih" ∷ "sh" ∷ [])) refl refl (λ p i d. refl) (omega arith),
+                                  (plain (fromPoland ∷ toPolish ∷ []) (bytes "POLISH") Runtime (map bytes ("p" ∷ "aa" ∷ "l" ∷ "ih" ∷ "sh" ∷ [])) refl refl (λ p i d. refl) (omega arith), tt),
+                                ),
+                              ),
                             ),
                           ),
                         ),

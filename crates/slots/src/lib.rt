@@ -9,7 +9,7 @@ ghost use Rattle.texts.specs.Text.{folded};
 ghost use Rattle.records.specs.Records.{records};
 ghost use Rattle.cells.specs.Cells.{phonesOf};
 ghost use Rattle.slots_spec.specs.Slot.{slot as slotOf, entryOf, isFolded, isSlot};
-ghost use Rattle.slots_spec.specs.Laws.Parts.{isKey, isBlank, usedCells, isTidy};
+ghost use Rattle.slots_spec.specs.Laws.Parts.{isStored, isKey, isBlank, usedCells, isTidy};
 
 // A word into dst from k on, folded.
 pub fn put_folded(dst: &mut [u8], k: usize, word: &[u8])
@@ -23,20 +23,21 @@ pub fn put_folded(dst: &mut [u8], k: usize, word: &[u8])
     }
 }
 
-// An entry as a slot that nothing follows, its word folded.
-pub fn write(slot: &mut [u8], tag: u8, word: &[u8], phones: &[u8])
+// An entry as a slot that nothing follows.
+pub fn write(slot: &mut [u8], tag: u8, word: &[u8], phones: &[u8], exact: bool)
     requires { ⌜ (length (now slot) ≡ 512) × (length (now word) ≤ 47) × (length (now phones) / 16 ≤ 24) ⌝ }
-    ensures { λ _. ⌜ now (slot .exit) ≡ slotOf 0 (record { tag = tag; word = map folded (now (word .entry)); phones = phonesOf (now (phones .entry)) }) ⌝ }
+    ensures { λ _. ⌜ now (slot .exit) ≡ slotOf 0 (record { tag = tag; word = now (word .entry); phones = phonesOf (now (phones .entry)); exact = exact }) ⌝ }
 {
     let n = word.len();
     let count = phones.len() / 16;
     records::put_u16(slot, 0, 0);
     slot[2] = tag;
     slot[3] = n as u8;
-    put_folded(slot, 4, word);
+    records::copy_in(slot, 4, word);
     records::clear(slot, 4 + n, 47 - n);
     slot[51] = count as u8;
-    records::clear(slot, 52, 12);
+    slot[52] = exact as u8;
+    records::clear(slot, 53, 11);
     cells::put_phones(slot, 4, phones);
     records::clear(slot, 64 + 16 * count, 448 - 16 * count);
 }
@@ -73,6 +74,12 @@ pub fn phones(slot: &[u8]) -> &[u8]
     used_cells(slot)
 }
 
+pub fn is_exact(slot: &[u8]) -> bool
+    ensures { λ r. ⌜ r ≡ entryOf (now (slot .entry)) .exact ⌝ }
+{
+    records::byte_at(slot, 52) == 1
+}
+
 // Whether case folding leaves a word as it is.
 fn is_folded(word: &[u8]) -> bool
     ensures { λ r. ⌜ r ≡ isFolded (now (word .entry)) ⌝ }
@@ -87,6 +94,16 @@ fn is_folded(word: &[u8]) -> bool
     true
 }
 
+// Whether the word may be that of an entry, exact or not as the slot has it.
+fn is_stored(slot: &[u8]) -> bool
+    ensures { λ r. ⌜ r ≡ isStored (now (slot .entry)) ⌝ }
+{
+    if is_exact(slot) {
+        return true;
+    }
+    is_folded(word(slot))
+}
+
 // Whether tag, word and phone count may be those of an entry.
 fn is_key(slot: &[u8]) -> bool
     ensures { λ r. ⌜ r ≡ isKey (now (slot .entry)) ⌝ }
@@ -97,13 +114,13 @@ fn is_key(slot: &[u8]) -> bool
     if !texts::is_word(word(slot)) {
         return false;
     }
-    if !is_folded(word(slot)) {
+    if !is_stored(slot) {
         return false;
     }
     records::byte_at(slot, 51) <= 24
 }
 
-// Whether the bytes past the word, 52 to 63, and those past the phones are zero.
+// Whether the bytes past the word, 53 to 63, and those past the phones are zero, and byte 52 is 0 or 1.
 fn is_blank(slot: &[u8]) -> bool
     ensures { λ r. ⌜ r ≡ isBlank (now (slot .entry)) ⌝ }
 {
@@ -111,7 +128,10 @@ fn is_blank(slot: &[u8]) -> bool
     if !records::are_zeros(records::tail(records::head(slot, 51), 4 + n)) {
         return false;
     }
-    if !records::are_zeros(records::tail(records::head(slot, 64), 52)) {
+    if 1 < records::byte_at(slot, 52) {
+        return false;
+    }
+    if !records::are_zeros(records::tail(records::head(slot, 64), 53)) {
         return false;
     }
     let count = texts::wide(records::byte_at(slot, 51));

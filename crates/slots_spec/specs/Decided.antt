@@ -17,7 +17,7 @@ use Rattle.records.specs.Records.{recordAt, records, record-of, length-records,
 use Rattle.records.specs.Between.{Zero, Low, part-at, part-every, rest-zero, zero-rest, part-zero, zero-part, text-low, low-text}
 use Rattle.slots_spec.specs.Slot.{entryOf, isSmall, isFolded, slot, isSlot, slot-of, length-slot}
 use Rattle.slots_spec.specs.SoundSlot.{Folded, SoundCell, SoundSlot}
-use Rattle.slots_spec.specs.Laws.Parts.{isKey, isBlank, usedCells, isTidy, slot-parts}
+use Rattle.slots_spec.specs.Laws.Parts.{isStored, isKey, isBlank, usedCells, isTidy, slot-parts}
 
 -- a slot that passes the test has 512 bytes, and its first is a byte
 test-size : (r : List ℕ) → isSlot r ≡ true → length r ≡ 512
@@ -30,15 +30,34 @@ test-byte r h =
     omega arith
 
 module _ (r : List ℕ) (size : length r ≡ 512) where
+  -- the test of the word, both ways: folded where byte 52 is not 1
+  stored-told : getD r 3 0 ≤ 47 → isStored r ≡ true → getD r 52 0 ≡ 0 → Folded r 4 (4 + getD r 3 0)
+  unfolding isStored isFolded isSmall
+  stored-told short h z i lo hi =
+      let f : isFolded (take (getD r 3 0) (drop 4 r)) ≡ true = rw z at h in
+      eqb-true (folded (getD r i 0)) (getD r i 0) (part-at isSmall r 4 (getD r 3 0) f i lo hi (omega arith))
+
+  told-folded : Folded r 4 (4 + getD r 3 0) → isFolded (take (getD r 3 0) (drop 4 r)) ≡ true
+  unfolding isFolded isSmall
+  told-folded f = part-every isSmall r 4 (getD r 3 0) (λ i lo hi m. eq-eqb (folded (getD r i 0)) (getD r i 0) (f i lo hi))
+
+  told-stored : (s : SoundSlot r) → isStored r ≡ true
+  unfolding isStored
+  told-stored s =
+      let le = s .zeroOrOne in
+      cases (eqb (getD r 52 0) 1)
+      (λ e. rw e)
+      (λ e. let n = eqb-false (getD r 52 0) 1 e in rw (e, told-folded (s .foldedWord (omega arith))))
+
   -- the test of the key, both ways
   key-told : isKey r ≡ true
-      → (getD r 2 0 < 128) × (getD r 3 0 ≤ 47) × Low r 4 (4 + getD r 3 0) × Folded r 4 (4 + getD r 3 0) × (getD r 51 0 ≤ 24)
-  unfolding isKey isWord isFolded isSmall low
+      → (getD r 2 0 < 128) × (getD r 3 0 ≤ 47) × Low r 4 (4 + getD r 3 0) × (getD r 52 0 ≡ 0 → Folded r 4 (4 + getD r 3 0)) × (getD r 51 0 ≤ 24)
+  unfolding isKey isWord low
   key-told h =
       let n = getD r 3 0 in
       let w = take n (drop 4 r) in
-      let a = both-true (low (getD r 2 0) && isWord w && isFolded w) (leb (getD r 51 0) 24) h in
-      let b = both-true (low (getD r 2 0) && isWord w) (isFolded w) (a .0) in
+      let a = both-true (low (getD r 2 0) && isWord w && isStored r) (leb (getD r 51 0) 24) h in
+      let b = both-true (low (getD r 2 0) && isWord w) (isStored r) (a .0) in
       let c = both-true (low (getD r 2 0)) (isWord w) (b .0) in
       let d = both-true (leb (length w) 47) (ascii w) (c .1) in
       let s = leb-true (length w) 47 (d .0) in
@@ -48,12 +67,12 @@ module _ (r : List ℕ) (size : length r ≡ 512) where
         ltb-true (getD r 2 0) 128 (c .0),
         short,
         text-low r 4 n (omega arith) (d .1),
-        (λ i lo hi. eqb-true (folded (getD r i 0)) (getD r i 0) (part-at isSmall r 4 n (b .1) i lo hi (omega arith))),
+        stored-told short (b .1),
         leb-true (getD r 51 0) 24 (a .1),
       )
 
   told-key : SoundSlot r → isKey r ≡ true
-  unfolding isKey isWord isFolded
+  unfolding isKey isWord
   told-key s =
       let n = getD r 3 0 in
       let w = take n (drop 4 r) in
@@ -61,17 +80,21 @@ module _ (r : List ℕ) (size : length r ≡ 512) where
       let few = s .fewPhones in
       let l : length w ≡ n = length-take-le n (drop 4 r) (rw length-drop (omega arith)) in
       let t : low (getD r 2 0) ≡ true = unfold low in lt-ltb (getD r 2 0) 128 (s .lowTag) in
-      let f : every isSmall w ≡ true = part-every isSmall r 4 n (λ i lo hi m. unfold isSmall in eq-eqb (folded (getD r i 0)) (getD r i 0) (s .foldedWord i lo hi)) in
-      rw (t, l, le-leb n 47 short, low-text r 4 n (omega arith) (s .lowWord), f, le-leb (getD r 51 0) 24 few)
+      rw (t, l, le-leb n 47 short, low-text r 4 n (omega arith) (s .lowWord), told-stored s, le-leb (getD r 51 0) 24 few)
 
   -- the test of the zero bytes, both ways
-  blank-told : isBlank r ≡ true → Zero r (4 + getD r 3 0) 51 × Zero r 52 64 × Zero r (64 + 16 * getD r 51 0) 512
+  blank-told : isBlank r ≡ true → Zero r (4 + getD r 3 0) 51 × (getD r 52 0 ≤ 1) × Zero r 53 64 × Zero r (64 + 16 * getD r 51 0) 512
   unfolding isBlank
   blank-told h =
-      let a = both-true (every (is 0) (drop (4 + getD r 3 0) (take 51 r)) && every (is 0) (drop 52 (take 64 r))) (every (is 0) (drop (64 + 16 * getD r 51 0) r)) h in
-      let b = both-true (every (is 0) (drop (4 + getD r 3 0) (take 51 r))) (every (is 0) (drop 52 (take 64 r))) (a .0) in (
-        part-zero r (4 + getD r 3 0) 51 (b .0),
-        part-zero r 52 64 (b .1),
+      let p = every (is 0) (drop (4 + getD r 3 0) (take 51 r)) in
+      let x = leb (getD r 52 0) 1 in
+      let q = every (is 0) (drop 53 (take 64 r)) in
+      let a = both-true (p && x && q) (every (is 0) (drop (64 + 16 * getD r 51 0) r)) h in
+      let b = both-true (p && x) q (a .0) in
+      let c = both-true p x (b .0) in (
+        part-zero r (4 + getD r 3 0) 51 (c .0),
+        leb-true (getD r 52 0) 1 (c .1),
+        part-zero r 53 64 (b .1),
         (λ i lo hi. rest-zero r (64 + 16 * getD r 51 0) (a .1) i lo),
       )
 
@@ -80,7 +103,8 @@ module _ (r : List ℕ) (size : length r ≡ 512) where
   told-blank s =
       rw (
         zero-part r (4 + getD r 3 0) 51 (s .pastWord),
-        zero-part r 52 64 (s .unnamed),
+        le-leb (getD r 52 0) 1 (s .zeroOrOne),
+        zero-part r 53 64 (s .unnamed),
         zero-rest r (64 + 16 * getD r 51 0) (λ i lo l. s .pastPhones i lo (omega arith)),
       )
 
@@ -186,12 +210,13 @@ slot-sound r h =
       lowTag = k .0;
       shortWord = k .1;
       lowWord = k .2;
-      foldedWord = k .3;
       pastWord = z .0;
       fewPhones = k .4;
-      unnamed = z .1;
+      zeroOrOne = z .1;
+      foldedWord = k .3;
+      unnamed = z .2;
       phones = cells-told r l (k .4) (b .1) (a .1);
-      pastPhones = z .2;
+      pastPhones = z .3;
     }
 
 -- back, where the first byte is a byte, as in any lent store

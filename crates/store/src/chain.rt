@@ -2,19 +2,15 @@
 ghost use mathlib.Core.Path.{_≡_};
 ghost use mathlib.Core.Bool.{true, not};
 ghost use lib.Dec.{leb};
-ghost use mathlib.Core.List.{map};
 ghost use Prim.Native.Nat.{_+_, _*_, _/_, _≤_, _<_};
 ghost use lib.ListN.{length};
-ghost use Rattle.texts.specs.Text.{folded};
-ghost use Rattle.cells.specs.Cells.{phonesOf};
-ghost use Rattle.slots_spec.specs.Slot.{isFolded};
 ghost use Rattle.store_spec.specs.Store.{last as lastOf, used as usedOf, slots, isWanted, isSound};
 ghost use Rattle.store_spec.specs.Adding.{entryFor, seek as seekOf, cutOut, tied, addedNew, isFull, kept};
 use crate::fields;
 
 // Of the n slots behind slot 0, the one that the first wanted entry stands behind; the last if there is none.
-pub fn seek(store: &[u8], n: usize, any: bool, word: &[u8], tag: u8) -> usize
-    ensures { λ r. ⌜ (r ≡ seekOf (now (store .entry)) (isWanted any (now (word .entry)) tag) n 0) × (r < 65536) ⌝ }
+pub fn seek(store: &[u8], n: usize, exact: bool, any: bool, word: &[u8], tag: u8) -> usize
+    ensures { λ r. ⌜ (r ≡ seekOf (now (store .entry)) (isWanted exact any (now (word .entry)) tag) n 0) × (r < 65536) ⌝ }
 {
     let mut p = 0;
     let mut left = n;
@@ -23,7 +19,7 @@ pub fn seek(store: &[u8], n: usize, any: bool, word: &[u8], tag: u8) -> usize
         if q == 0 {
             return p;
         }
-        if fields::is_wanted(fields::slot(store, q), any, word, tag) {
+        if fields::is_wanted(fields::slot(store, q), exact, any, word, tag) {
             return p;
         }
         p = q;
@@ -49,45 +45,45 @@ fn cut_out(store: &mut [u8], p: usize)
 }
 
 // Writes slot n whole and ties it behind the last.
-fn tie(store: &mut [u8], n: usize, tag: u8, word: &[u8], phones: &[u8])
+fn tie(store: &mut [u8], n: usize, tag: u8, word: &[u8], phones: &[u8], exact: bool)
     requires { ⌜ (512 * n + 512 ≤ length (now store)) × (n < 65536) × (512 * lastOf (now store) + 512 ≤ length (now store)) × (length (now word) ≤ 47) × (length (now phones) / 16 ≤ 24) ⌝ }
-    ensures { λ _. ⌜ now (store .exit) ≡ tied (now (store .entry)) n (record { tag = tag; word = map folded (now (word .entry)); phones = phonesOf (now (phones .entry)) }) ⌝ }
+    ensures { λ _. ⌜ now (store .exit) ≡ tied (now (store .entry)) n (entryFor tag (now (word .entry)) (now (phones .entry)) exact) ⌝ }
 {
     let last = records::u16_at(store, 2) as usize;
     let from = 512 * n;
     let to = from + 512;
-    slots::write(&mut store[from..to], tag, word, phones);
+    slots::write(&mut store[from..to], tag, word, phones, exact);
     records::put_u16(store, 512 * last, n as u16);
     records::put_u16(store, 2, n as u16);
 }
 
 // An entry of a new key: it takes slot n + 1, where n slots are used; whether there is one.
-fn add_new(store: &mut [u8], n: usize, tag: u8, word: &[u8], phones: &[u8]) -> bool
+fn add_new(store: &mut [u8], n: usize, tag: u8, word: &[u8], phones: &[u8], exact: bool) -> bool
     requires { ⌜ (n ≡ usedOf (now store)) × (n < 65535) × (512 * lastOf (now store) + 512 ≤ length (now store)) × (length (now word) ≤ 47) × (length (now phones) / 16 ≤ 24) ⌝ }
     ensures { λ r. ⌜ r ≡ not (leb (slots (now (store .entry))) (usedOf (now (store .entry)) + 1)) ⌝ }
-    ensures { λ _. ⌜ now (store .exit) ≡ addedNew (now (store .entry)) (record { tag = tag; word = map folded (now (word .entry)); phones = phonesOf (now (phones .entry)) }) ⌝ }
+    ensures { λ _. ⌜ now (store .exit) ≡ addedNew (now (store .entry)) (entryFor tag (now (word .entry)) (now (phones .entry)) exact) ⌝ }
 {
     if store.len() / 512 <= n + 1 {
         return false;
     }
-    tie(store, n + 1, tag, word, phones);
+    tie(store, n + 1, tag, word, phones, exact);
     records::put_u16(store, 4, (n + 1) as u16);
     true
 }
 
-// Adds an entry to a sound store, its word folded already; whether it has a slot for it.
-pub fn add(store: &mut [u8], tag: u8, word: &[u8], phones: &[u8]) -> bool
-    requires { ⌜ (isSound (now store) ≡ true) × (isFolded (now word) ≡ true) × (length (now word) ≤ 47) × (length (now phones) / 16 ≤ 24) ⌝ }
-    ensures { λ r. ⌜ r ≡ not (isFull (now (store .entry)) (entryFor tag (now (word .entry)) (now (phones .entry)))) ⌝ }
-    ensures { λ _. ⌜ now (store .exit) ≡ kept (now (store .entry)) (entryFor tag (now (word .entry)) (now (phones .entry))) ⌝ }
+// Adds an entry to a sound store; whether it has a slot for it.
+pub fn add(store: &mut [u8], tag: u8, word: &[u8], phones: &[u8], exact: bool) -> bool
+    requires { ⌜ (isSound (now store) ≡ true) × (length (now word) ≤ 47) × (length (now phones) / 16 ≤ 24) ⌝ }
+    ensures { λ r. ⌜ r ≡ not (isFull (now (store .entry)) (entryFor tag (now (word .entry)) (now (phones .entry)) exact)) ⌝ }
+    ensures { λ _. ⌜ now (store .exit) ≡ kept (now (store .entry)) (entryFor tag (now (word .entry)) (now (phones .entry)) exact) ⌝ }
 {
     let n = fields::used(store);
-    let p = seek(store, n, false, word, tag);
+    let p = seek(store, n, exact, false, word, tag);
     let q = fields::next(store, p);
     if q == 0 {
-        return add_new(store, n, tag, word, phones);
+        return add_new(store, n, tag, word, phones, exact);
     }
     cut_out(store, p);
-    tie(store, q, tag, word, phones);
+    tie(store, q, tag, word, phones, exact);
     true
 }

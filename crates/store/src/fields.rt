@@ -5,6 +5,7 @@ ghost use Prim.Native.Nat.{_*_, _<_};
 ghost use Rattle.records.specs.Records.{recordAt};
 ghost use Rattle.slots_spec.specs.Slot.{entryOf};
 ghost use Rattle.store_spec.specs.Store.{next as nextOf, used as usedOf, isStoreLength, isWanted};
+ghost use Rattle.store_spec.specs.Laws.Exact.{hasExact};
 
 // The number of the slot behind slot n; behind slot 0 stands the first.
 pub fn next(store: &[u8], n: usize) -> usize
@@ -42,10 +43,28 @@ pub fn is_store_length(n: usize) -> bool
     n % 512 == 0
 }
 
-// Whether the entry in a slot has this word, and a tag that agrees.
-pub fn is_wanted(slot: &[u8], any: bool, word: &[u8], tag: u8) -> bool
-    ensures { λ r. ⌜ r ≡ isWanted any (now (word .entry)) tag (entryOf (now (slot .entry))) ⌝ }
+// Whether one of the slots 1 to n holds an exact entry.
+pub fn has_exact(store: &[u8], n: usize) -> bool
+    requires { ⌜ n < 65536 ⌝ }
+    ensures { λ r. ⌜ r ≡ hasExact (now (store .entry)) n ⌝ }
 {
+    let mut k = n;
+    while 0 < k {
+        if records::byte_at(store, 512 * k + 52) == 1 {
+            return true;
+        }
+        k -= 1;
+    }
+    false
+}
+
+// Whether the entry in a slot is exact or not, as wanted, and has this word, and a tag that agrees.
+pub fn is_wanted(slot: &[u8], exact: bool, any: bool, word: &[u8], tag: u8) -> bool
+    ensures { λ r. ⌜ r ≡ isWanted exact any (now (word .entry)) tag (entryOf (now (slot .entry))) ⌝ }
+{
+    if slots::is_exact(slot) != exact {
+        return false;
+    }
     if !texts::same(slots::word(slot), word) {
         return false;
     }

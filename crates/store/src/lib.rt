@@ -5,6 +5,7 @@ mod fields;
 
 pub use chain::add;
 pub use chain::seek;
+pub use fields::has_exact;
 pub use fields::is_store_length;
 pub use fields::is_wanted;
 pub use fields::next;

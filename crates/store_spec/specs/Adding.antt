@@ -1,4 +1,4 @@
--- 01, Lookup: Adding. An entry of that word and tag goes, and the new one is last; how the store's bytes change.
+-- 01, Lookup: Adding. An entry of that key goes, and the new one is last; how the store's bytes change.
 -- Assumes nothing.
 use Prim.Native.Nat.{ℕ, zero, suc, _+_, _*_}
 use mathlib.Core.Bool.{Bool, not, _&&_}
@@ -41,7 +41,7 @@ placed b e p = if eqb (next b p) 0 then put16 (tied b (used b + 1) e) 4 (used b 
 unfoldable pub added : List ℕ → Entry → List ℕ
 added b e = placed b e (seek b (sameKey e) (used b) 0)
 
--- no entry of that word and tag, and no unused slot (refusal 8)
+-- no entry of that key, and no unused slot (refusal 8)
 unfoldable pub isFull : List ℕ → Entry → Bool
 isFull b e = not (some (sameKey e) (entries b)) && leb (slots b) (used b + 1)
 
@@ -53,6 +53,6 @@ kept b e = if isFull b e then b else added b e
 unfoldable pub addedNew : List ℕ → Entry → List ℕ
 addedNew b e = if leb (slots b) (used b + 1) then b else put16 (tied b (used b + 1) e) 4 (used b + 1)
 
--- the entry of a tag, a folded word and phones handed in
-unfoldable pub entryFor : ℕ → List ℕ → List ℕ → Entry
-entryFor tag word phones = record { tag = tag; word = word; phones = phonesOf phones }
+-- the entry of a tag, a word as it is stored, and phones handed in
+unfoldable pub entryFor : ℕ → List ℕ → List ℕ → Bool → Entry
+entryFor tag word phones exact = record { tag = tag; word = word; phones = phonesOf phones; exact = exact }

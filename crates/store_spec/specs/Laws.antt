@@ -7,6 +7,7 @@ pub mod Tied
 pub mod New
 pub mod Known
 pub mod Found
+pub mod Exact
 pub mod Placed
 pub mod Turns
 pub mod Hashes

@@ -69,11 +69,12 @@ pub sound-zeros : (b : List ℕ) → ZeroHead b → isRest (drop 6 (recordAt 512
 unfolding isRest
 sound-zeros b z = rw (before-count b, behind-count b, zero-part b 6 8 (z .before), zero-part b 16 512 (z .behind))
 
--- keys differ: at two different places of a chain, where slot n holds entry g n, words or tags differ
+-- keys differ: at two different places of a chain, where slot n holds entry g n, words or tags differ, or one entry is exact and the other not
 abbrev pub KeysDiffer : (ℕ → Entry) → List ℕ → Type 0
 KeysDiffer g xs =
     (i j : ℕ) → i ≢ j → i < length xs → j < length xs
-    → g (getD xs i 0) .word ≡ g (getD xs j 0) .word → g (getD xs i 0) .tag ≡ g (getD xs j 0) .tag → ⊥
+    → g (getD xs i 0) .word ≡ g (getD xs j 0) .word → g (getD xs i 0) .tag ≡ g (getD xs j 0) .tag
+    → g (getD xs i 0) .exact ≡ g (getD xs j 0) .exact → ⊥
 
 module _ (g : ℕ → Entry) where
   -- an entry's key against those of a chain
@@ -88,31 +89,31 @@ module _ (g : ℕ → Entry) where
   told-other e [] h = refl
   told-other e (x ∷ xs) h = let ih = told-other e xs (λ j l. h (suc j) (omega arith)) in rw (h 0 (omega arith), ih)
 
-  apart : (x y : ℕ) → sameKey (g x) (g y) ≡ false → g x .word ≡ g y .word → g x .tag ≡ g y .tag → ⊥
-  apart x y h w t = never (sameKey (g x) (g y)) (key-from (g x) (g y) (sym w) (sym t)) h
+  apart : (x y : ℕ) → sameKey (g x) (g y) ≡ false → g x .word ≡ g y .word → g x .tag ≡ g y .tag → g x .exact ≡ g y .exact → ⊥
+  apart x y h w t e = never (sameKey (g x) (g y)) (key-from (g x) (g y) (sym w) (sym t) (sym e)) h
 
   pub keys-sound : (xs : List ℕ) → keysDiffer (map g xs) ≡ true → KeysDiffer g xs
   unfolding keysDiffer
-  keys-sound [] h i j ne hi hj w t = absurd (omega arith)
-  keys-sound (x ∷ xs) h zero zero ne hi hj w t = ne refl
-  keys-sound (x ∷ xs) h zero (suc j) ne hi hj w t =
+  keys-sound [] h i j ne hi hj w t e = absurd (omega arith)
+  keys-sound (x ∷ xs) h zero zero ne hi hj w t e = ne refl
+  keys-sound (x ∷ xs) h zero (suc j) ne hi hj w t e =
       let b = both-true (not (some (sameKey (g x)) (map g xs))) (keysDiffer (map g xs)) h in
-      apart x (getD xs j 0) (other-told (g x) xs (not-true (some (sameKey (g x)) (map g xs)) (b .0)) j (omega arith)) w t
-  keys-sound (x ∷ xs) h (suc i) zero ne hi hj w t =
+      apart x (getD xs j 0) (other-told (g x) xs (not-true (some (sameKey (g x)) (map g xs)) (b .0)) j (omega arith)) w t e
+  keys-sound (x ∷ xs) h (suc i) zero ne hi hj w t e =
       let b = both-true (not (some (sameKey (g x)) (map g xs))) (keysDiffer (map g xs)) h in
-      apart x (getD xs i 0) (other-told (g x) xs (not-true (some (sameKey (g x)) (map g xs)) (b .0)) i (omega arith)) (sym w) (sym t)
-  keys-sound (x ∷ xs) h (suc i) (suc j) ne hi hj w t =
+      apart x (getD xs i 0) (other-told (g x) xs (not-true (some (sameKey (g x)) (map g xs)) (b .0)) i (omega arith)) (sym w) (sym t) (sym e)
+  keys-sound (x ∷ xs) h (suc i) (suc j) ne hi hj w t e =
       let b = both-true (not (some (sameKey (g x)) (map g xs))) (keysDiffer (map g xs)) h in
-      keys-sound xs (b .1) i j (λ e. ne (omega arith)) (omega arith) (omega arith) w t
+      keys-sound xs (b .1) i j (λ z. ne (omega arith)) (omega arith) (omega arith) w t e
 
   pub sound-keys : (xs : List ℕ) → KeysDiffer g xs → keysDiffer (map g xs) ≡ true
   unfolding keysDiffer
   sound-keys [] d = refl
   sound-keys (x ∷ xs) d =
-      let ih = sound-keys xs (λ i j ne hi hj w t. d (suc i) (suc j) (λ e. ne (omega arith)) (omega arith) (omega arith) w t) in
+      let ih = sound-keys xs (λ i j ne hi hj w t x. d (suc i) (suc j) (λ e. ne (omega arith)) (omega arith) (omega arith) w t x) in
       let n = told-other (g x) xs (λ j l. is-false (sameKey (g x) (g (getD xs j 0))) (λ e.
       let k = key-true (g x) (g (getD xs j 0)) e in
-      d 0 (suc j) (λ z. absurd (omega arith)) (omega arith) (omega arith) (sym (k .0)) (sym (k .1)))) in
+      d 0 (suc j) (λ z. absurd (omega arith)) (omega arith) (omega arith) (sym (k .0)) (sym (k .1)) (sym (k .2)))) in
       rw (n, ih)
 
 -- each slot in the chain of a sound store is a sound slot

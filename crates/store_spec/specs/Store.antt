@@ -1,7 +1,8 @@
--- 01, Store and sheet, with the count of 02, S-2: the store, slots of 512 bytes in lent bytes, chained from slot 0 on; when it is sound, and its entries.
+-- 01, Store and sheet, with the count of 02, S-2, and the exact entries of S-8: the store, slots of 512 bytes in lent bytes,
+-- chained from slot 0 on; when it is sound, and its entries.
 -- Assumes nothing.
 use Prim.Native.Nat.{ℕ, zero, suc, _*_, _%_, _/_}
-use mathlib.Core.Bool.{Bool, true, false, not, _&&_}
+use mathlib.Core.Bool.{Bool, true, false, not, _&&_, Bool·beq}
 use mathlib.Core.List.{List, [], _∷_, map}
 use lib.Dec.{eqb, leb, ltb}
 use lib.ListN.{length, take, drop}
@@ -54,13 +55,13 @@ entries b = map (entryAt b) (order b)
 unfoldable pub isStoreLength : ℕ → Bool
 isStoreLength n = leb 512 n && leb n 65536 && eqb (n % 512) 0
 
--- an entry has this word, and a tag that agrees
-unfoldable pub isWanted : Bool → List ℕ → ℕ → Entry → Bool
-isWanted any word tag e = same (e .word) word && agree any (e .tag) tag
+-- an entry is exact or not, as wanted, and has this word, and a tag that agrees
+unfoldable pub isWanted : Bool → Bool → List ℕ → ℕ → Entry → Bool
+isWanted exact any word tag e = Bool·beq (e .exact) exact && same (e .word) word && agree any (e .tag) tag
 
--- the key of an entry is its word and its tag: these two have one key
+-- the key of an entry is its word, its tag and whether it is exact: these two have one key
 unfoldable pub sameKey : Entry → Entry → Bool
-sameKey a b = isWanted false (a .word) (a .tag) b
+sameKey a b = isWanted (a .exact) false (a .word) (a .tag) b
 
 -- no two entries have one key
 unfoldable pub keysDiffer : List Entry → Bool

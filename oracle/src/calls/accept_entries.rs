@@ -5,7 +5,7 @@ use super::adding::STORE_ORDER;
 use super::filling::Texts;
 use super::preview_entries::PreviewEntries;
 use crate::prelude::*;
-use crate::stores::UNSOUND_BYTES;
+use crate::stores::{Placed, UNSOUND_BYTES};
 
 #[derive(Clone)]
 pub struct Input {
@@ -38,10 +38,11 @@ pub struct AcceptEntries {
 impl Call for AcceptEntries {
     type Input = Input;
     const NAME: &'static str = "accept_entries";
-    const SHARE: usize = 28;
+    const SHARE: usize = 34;
     const ANSWERS: Rows = &["accepted"];
     const REFUSALS: &'static [u32] = &[2, 12];
-    const MET: Table = &[ROWS, store_edges::RAISED, STORE_ORDER, UNSOUND_BYTES];
+    const MET: Table =
+        &[ROWS, store_edges::RAISED, STORE_ORDER, store_edges::EXACT, UNSOUND_BYTES];
     const LIBRARY: Function = ours::accept_entries;
 
     fn short(&self) -> Vec<Input> {
@@ -83,7 +84,10 @@ impl Call for AcceptEntries {
         let differ = stores::count(store) != stores::count(spare);
         met.refuse(12, differ || stores::is_spent(store), || by_12(store, spare))?;
         met.all(accepted(store, spare));
-        met.shared(store_edges::features(spare, &read.expect("the spare is sound")));
+        let entries = read.expect("the spare is sound");
+        met.shared(store_edges::features(spare, &entries));
+        met.all(store_edges::of_exact(&entries));
+        met.all(exactness(store, &entries));
         let after = store_edges::raised(spare, met);
         Ok(Told::new(Answer::accepted(0, 0), "accepted", vec![after]).by_papers())
     }
@@ -119,6 +123,7 @@ fn spoiled(random: &mut Random, Input { mut store, mut spare }: Input) -> Input 
             spare = stores::with_count(&spare, store_shapes::count(random));
             store = stores::with_count(&store, stores::count(&spare));
         }
+        10 | 11 => spare = store_shapes::of_other_kind(random, &spare),
         _ => {}
     }
     Input { store, spare }
@@ -126,8 +131,8 @@ fn spoiled(random: &mut Random, Input { mut store, mut spare }: Input) -> Input 
 
 /// Every two stores that up to two adds leave, with one count and with two; and every two at the papers' limits.
 fn pairs() -> Vec<Input> {
-    let small = store_edges::small(2);
     let small = each! {
+        for small in [store_edges::small(2), store_edges::small_exact(2)];
         for store in &small;
         for spare in &small;
         let spares = [0, 1].map(|more| stores::with_count(spare, stores::count(store) + more));
@@ -221,5 +226,18 @@ rows! { ROWS:
         "other bytes in unused slots" => store[unused..] != spare[unused..],
         "store of one slot" => store.len() == SLOT,
         "store of 65,536 bytes" => store.len() == stores::LARGEST,
+    ]
+
+    /// What an accepted spare's entries have whose twins the store has.
+    exactness(store: &[u8], spare: &[Placed]) {
+        let keys = |entries: &[Placed]| -> Vec<Key> {
+            entries.iter().map(|placed| placed.entry.key()).collect()
+        };
+        let before = keys(&stores::read(store).unwrap_or_default());
+        let mut turned = keys(spare);
+        turned.retain(|key| !before.contains(key) && before.contains(&key.twin()));
+    } [
+        "entry that becomes exact" => turned.iter().any(|key| key.exact),
+        "entry that becomes ordinary" => turned.iter().any(|key| !key.exact),
     ]
 }

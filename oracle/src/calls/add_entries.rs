@@ -26,6 +26,7 @@ impl Call for AddEntries {
         rule::RANKS,
         store_edges::RAISED,
         STORE_ORDER,
+        store_edges::EXACT,
         UNSOUND,
     ];
     const LIBRARY: Function = ours::add_entries;
@@ -47,6 +48,10 @@ impl Call for AddEntries {
             _ => input.scene.store.clone(),
         };
         Ok(Told::new(answer, filled.row(), vec![store, filled.spare()]))
+    }
+
+    fn has_exact(&self, input: &Input) -> bool {
+        input.scene.has_exact()
     }
 
     fn lent<'a>(&self, input: &'a Input) -> Vec<Part<'a>> {

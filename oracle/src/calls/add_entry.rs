@@ -1,5 +1,6 @@
-//! add_entry: a runtime entry that becomes the last of its store. The store at exit is written by the driver
-//! from the original's own list, by 01's layout and numbering.
+//! add_entry: a runtime entry, ordinary or exact, that becomes the last of its store. The store at exit is written by
+//! the driver from the original's own list, by 01's layout and numbering; of exact entries (02, S-8), too, the original
+//! has a list, of one word each.
 
 mod rule;
 mod short;
@@ -21,9 +22,9 @@ pub struct AddEntry {
 impl Call for AddEntry {
     type Input = Input;
     const NAME: &'static str = "add_entry";
-    const SHARE: usize = 30;
+    const SHARE: usize = 110;
     const SHARE_RECORDED: usize = 24;
-    const ANSWERS: Rows = &["new key", "known key"];
+    const ANSWERS: Rows = &["new key", "known key", "exact: new key", "exact: known key"];
     const REFUSALS: &'static [u32] = &[1, 2, 12, 3, 5, 7, 8];
     const MET: Table = &[
         rule::ROWS,
@@ -33,6 +34,7 @@ impl Call for AddEntry {
         cells::UNREAD,
         store_edges::RAISED,
         STORE_ORDER,
+        store_edges::EXACT,
         UNSOUND,
     ];
     const LIBRARY: Function = ours::add_entry;
@@ -49,9 +51,15 @@ impl Call for AddEntry {
         });
         let (scene, mut given) = (pool.scene.clone(), pool.add(random));
         let entries = scene.entries();
-        if random.once_in(3) && !entries.is_empty() {
-            let entry = &entries[random.below(entries.len())].entry;
-            given.wanted = Wanted::new(words::recased(random, &entry.word), [entry.tag]);
+        // often a known key, more often in a full store
+        let known = if entries.len() == stores::room(&scene.store) { 3 } else { 1 };
+        if random.weighted(&[known, 2]) == 0 && !entries.is_empty() {
+            let Entry { word, tag, exact, .. } = &entries[random.below(entries.len())].entry;
+            let as_it_is = *exact && !random.once_in(4);
+            let word = if as_it_is { word.clone() } else { words::recased(random, word) };
+            given.wanted = Wanted::new(word, [*tag]);
+            // of its own kind, or not
+            given.exact = pool.exact && *exact != random.once_in(4);
         }
         spoil(random, &mut given, &self.phones);
         let mut input = Input::new(scene, given);
@@ -64,20 +72,26 @@ impl Call for AddEntry {
     fn rule(&self, input: &Input, met: &mut Met) -> Ruling {
         let Input { scene, given } = input;
         let store = added(input, met)?;
-        let key = key(&given.wanted.word, &given.wanted.tag);
+        let key = given.key();
         let known = scene.keys().iter().position(|known| *known == key);
         met.all(match known {
-            None => rule::of_new(scene, &key.0),
+            None => rule::of_new(scene, &key),
             Some(at) => rule::of_known(scene, at, given, &store),
         });
+        met.all(rule::of_kind(scene, given));
         met.all(given.wanted.met());
         met.all(rule::of_list(&scene.lexicon, &given.phones));
         met.all(cells::of_phones(&given.phones.texts()));
         met.all(cells::unread(&given.phones));
         met.shared(store_edges::features(&scene.store, scene.entries()));
-        let row = Self::ANSWERS[usize::from(known.is_some())];
+        met.all(store_edges::of_exact(scene.entries()));
+        let row = Self::ANSWERS[usize::from(known.is_some()) + 2 * usize::from(given.exact)];
         let store = store_edges::raised(&store, met);
         Ok(Told::new(Answer::accepted(0, 0), row, vec![store]))
+    }
+
+    fn has_exact(&self, input: &Input) -> bool {
+        input.given.exact || input.scene.has_exact()
     }
 
     fn lent<'a>(&self, input: &'a Input) -> Vec<Part<'a>> {
@@ -93,7 +107,8 @@ impl Call for AddEntry {
             // a store that fills at once, some that fill soon, and one that has room for all
             let slots = [2, 3, 4, 5, 5, 6, 6, 7, 8, 15][set % 10];
             let store = stores::new(slots, random.byte());
-            Pool { scene: Scene::of(lexicon, store), words, phones: self.phones.clone() }
+            let (scene, phones) = (Scene::of(lexicon, store), self.phones.clone());
+            Pool { scene, words, phones, exact: set % 3 > 0 }
         })
     }
 }
@@ -102,8 +117,11 @@ impl Call for AddEntry {
 fn to_record(random: &mut Random, pool: &Pool) -> Input {
     let scene = &pool.scene;
     if let (Some(last), true) = (scene.entries().last(), random.once_in(30)) {
-        let Entry { tag, word, phones } = &last.entry;
-        return short::input(scene, words::recased(random, word), [*tag], phones);
+        let Entry { tag, word, phones, exact } = &last.entry;
+        let word = if *exact { word.clone() } else { words::recased(random, word) };
+        let mut input = short::input(scene, word, [*tag], phones);
+        input.given.exact = *exact;
+        return input;
     }
     let made = || {
         let mut given = pool.add(random);
@@ -128,7 +146,7 @@ fn short_word(random: &mut Random) -> Vec<u8> {
 
 /// Makes some adds refusable: one in three of them.
 pub fn spoil(random: &mut Random, given: &mut Add, phones: &Phones) {
-    let Add { wanted, phones: list } = given;
+    let Add { wanted, phones: list, .. } = given;
     if random.once_in(6) {
         list.spoil_padding(random);
     }

@@ -6,11 +6,12 @@ use crate::prelude::*;
 pub const STORE_ORDER: &[Rows] =
     &[&["store in another order than its slots", "anything in unused slots"]];
 
-/// What adds are made of: a store beside its phone table, words to add, and phones.
+/// What adds are made of: a store beside its phone table, words to add, and phones; and whether some are exact.
 pub struct Pool {
     pub scene: Rc<Scene>,
     pub words: Vec<Vec<u8>>,
     pub phones: Rc<Phones>,
+    pub exact: bool,
 }
 
 impl Pool {
@@ -28,6 +29,7 @@ impl Pool {
         let words = (0..random.between(1, 12)).map(|_| words::accepted(random, &alphabet));
         let mut words: Vec<Vec<u8>> = words.collect();
         let empty = Scene::of(lexicon, stores::new(1, 0));
+        let exact = !random.once_in(4);
         let kind = random.weighted(&weights_and_calls.map(|(weight, _)| weight));
         let store = match kind {
             0 => {
@@ -35,20 +37,20 @@ impl Pool {
                 store_shapes::spoil_unused(random, &mut store);
                 store
             }
-            1 => store_shapes::random(random, &empty, &words, phones),
+            1 => store_shapes::random(random, &empty, &words, phones, exact),
             _ => {
-                let (slots, adds) = (stores::LARGEST / SLOT, adds(random));
+                let size = [stores::LARGEST / SLOT, adds(random)];
                 words.extend((0..200).map(|i| format!("w{i}").into()));
-                store_shapes::of_size(random, &empty, &words, phones, slots, adds)
+                store_shapes::of_size(random, &empty, &words, phones, size, exact)
             }
         };
-        let pool = Pool { scene: empty.with_store(store), words, phones: phones.clone() };
+        let pool = Pool { scene: empty.with_store(store), words, phones: phones.clone(), exact };
         (pool, weights_and_calls[kind].1)
     }
 
     /// An entry that can be added, if there is room for it.
     pub fn add(&self, random: &mut Random) -> Add {
-        store_shapes::add(random, &self.scene, &self.words, &self.phones, false)
+        store_shapes::add(random, &self.scene, &self.words, &self.phones, self.exact)
     }
 
     /// Puts another store in the place of its own.

@@ -91,8 +91,12 @@ impl Texts {
             let names: Vec<Vec<u8>> = (0..4).map(|_| self.phones.phone(random)).collect();
             let slots = [2, 3, 4, 5, 6, 9][set % 6];
             let scene = Scene::of(Lexicon::of(&names, &[]), stores::new(slots, random.byte()));
+            // every other store has exact entries, which stay, and room for others
+            let exact = [store_edges::exact("a", "", "k"), store_edges::exact("Lead", "", "t")];
+            let exact = &exact[..(set % 2) * (slots / 2).min(2)];
+            let scene = scene.with_store(scene.grown(exact));
             let words = ["a", "lead", "it's", "Z"].map(Vec::from).into();
-            Pool { scene, words, phones: self.phones.clone() }
+            Pool { scene, words, phones: self.phones.clone(), exact: false }
         })
     }
 }

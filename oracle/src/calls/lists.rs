@@ -1,7 +1,7 @@
 //! Lists of calls on one store and one sheet: new_sheet, add_entry, add_entries, its two steps and say_word, refused ones
 //! too. Each call gets what the library's call before left; the spare too, where a list holds a step. Beside it goes a
-//! book, which is the original with its own list of entries: it is fed the calls and whether each was refused, and says
-//! the words of a sheet again.
+//! book, which is the original with its own list of entries, and one more for each word with exact entries: it is fed the
+//! calls and whether each was refused, and says the words of a sheet again.
 
 mod book;
 mod made;
@@ -127,11 +127,11 @@ macro_rules! of_call {
 const CALLS: &[Rows] = &[
     &["calls in all"],
     of_call!("new_sheet": "new";),
-    of_call!("add_entry": "new key" "known key"; 1 3 5 7 8),
+    of_call!("add_entry": "new key" "known key" "exact: new key" "exact: known key"; 1 3 5 7 8),
     of_call!("add_entries": "lines taken 0" "lines taken 1" "lines taken 2 and more"; 1 2 3 4 5 7 8),
     of_call!("preview_entries": "lines taken 0" "lines taken 1" "lines taken 2 and more"; 1 3 4 5 7 8),
     of_call!("accept_entries": "accepted"; 12),
-    of_call!("say_word": "runtime" "addenda" "compiled" "letters"; 1 3 6 7 9),
+    of_call!("say_word": "runtime" "runtime, exact" "addenda" "compiled" "letters"; 1 3 6 7 9),
     &["phone_string: at an utterance's end", "refused call, then an accepted one"],
 ];
 
@@ -168,6 +168,11 @@ impl Call for Lists {
         met.all(lengths(input));
         let row = row_of(Self::ANSWERS, &[1, 6, 21], input.steps.len());
         Ok(Told::new(Answer::accepted(0, 0), row, vec![log]))
+    }
+
+    fn has_exact(&self, input: &Input) -> bool {
+        let is_exact = |step: &Step| matches!(step.act, Act::AddEntry(Add { exact: true, .. }));
+        input.steps.iter().any(is_exact)
     }
 
     /// The log, which is all that is compared.

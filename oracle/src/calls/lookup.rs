@@ -1,5 +1,5 @@
 //! lookup: the phones of a word by the runtime entries, the addenda and the compiled entries. The original
-//! does not tell the source; it is derived here.
+//! does not tell the source; it is derived here. Nor has it exact entries: those of the word's bytes go first.
 
 mod rule;
 pub mod short;
@@ -7,7 +7,7 @@ pub mod short;
 use crate::lexicon_shapes::Shape;
 use crate::lexicons::DAMAGE;
 use crate::prelude::*;
-pub use rule::{rule, Origin};
+pub use rule::{rule, Origin, EXACT};
 
 /// How many words tables serve, in every call, before others are made.
 pub const WORDS: usize = 40;
@@ -26,17 +26,19 @@ pub struct Lookup {
 impl Call for Lookup {
     type Input = Input;
     const NAME: &'static str = "lookup";
-    const SHARE: usize = 40;
+    const SHARE: usize = 103;
     const SHARE_RECORDED: usize = 40;
-    const ANSWERS: Rows = &["none", "runtime", "addenda", "compiled"];
+    const ANSWERS: Rows = &["none", "runtime", "addenda", "compiled", "runtime, exact"];
     const REFUSALS: &'static [u32] = &[1, 2, 3, 6, 7, 9];
     const MET: Table = &[
         &[&["tag empty", "tag 'nil'", "tag of one byte", "tag of more bytes", "tag of 47 bytes"]],
         &[&["7 before 9"]],
         words::WORD,
         rule::ROWS,
+        rule::EXACT,
         rule::WAYS,
         store_edges::STORE,
+        store_edges::EXACT,
         &[OUTPUT_OR_NONE, DAMAGE],
         stores::UNSOUND,
     ];
@@ -52,22 +54,25 @@ impl Call for Lookup {
             true => scene.with_store(store_shapes::damaged(random, &scene.store)),
             false => scene.clone(),
         };
-        let word = match random.once_in(8) {
-            true => words::random(random, b"abAB'_"),
-            false => words::near(random, words),
+        let wanted = match random.once_in(8) {
+            true => Wanted::new(words::random(random, b"abAB'_"), words::tag(random)),
+            false => wanted(random, &scene, words),
         };
-        Input::new(scene, Wanted::new(word, words::tag(random)), Room::random(random, 40))
+        Input::new(scene, wanted, Room::random(random, 40))
     }
 
     fn rule(&self, input: &Input, met: &mut Met) -> Ruling {
         let Input { scene, wanted, room } = input;
         let found = rule(scene, wanted, met)?;
         let row = found.as_ref().map_or("none", |origin| origin.row);
-        let kind = Self::ANSWERS.iter().position(|answer| *answer == row).unwrap_or(0) as u32;
+        let source = row.strip_suffix(", exact").unwrap_or(row);
+        let kind = Self::ANSWERS.iter().position(|answer| *answer == source).unwrap_or(0) as u32;
         let found = found.map(|origin| cells(&origin.phones));
         for pos in ways(&wanted.tag) {
-            let told = ask(|| scene.original().lookup(ascii(&wanted.word), pos))?;
-            let told = told.map(|phones| cells(&phones));
+            let word = ascii(&wanted.word);
+            let told = scene.asked_for(&wanted.word, |original| {
+                ask(|| original.lookup(word, pos).map(|phones| cells(&phones)))
+            })?;
             if told != found {
                 let told = told.map(|cells| Form::PhoneList.shown(&cells));
                 let other = format!("the driver another answer of kind {kind}");
@@ -83,7 +88,12 @@ impl Call for Lookup {
         }
         met.shared(wanted.met());
         met.all(store_edges::features(&scene.store, scene.entries()));
+        met.all(store_edges::of_exact(scene.entries()));
         Ok(Told::new(Answer::accepted(kind, count), row, vec![phones]))
+    }
+
+    fn has_exact(&self, input: &Input) -> bool {
+        input.scene.has_exact()
     }
 
     fn lent<'a>(&self, input: &'a Input) -> Vec<Part<'a>> {
@@ -104,8 +114,8 @@ impl Call for Lookup {
             let Shape { lexicon, words } = lexicon_shapes::to_record(random, &self.phones);
             let empty = Scene::of(lexicon, stores::new(1, 0));
             let mut lines = registers(0, &empty.lexicon.sections.parts());
-            for _ in 0..stores {
-                let scene = self.store_to_record(random, &empty, &words);
+            for number in 0..stores {
+                let scene = self.store_to_record(random, &empty, &words, number > 0);
                 lines.push(register(3, Form::Store, &scene.store));
                 let added = scene.entries().iter().map(|placed| &placed.entry.word);
                 let words: Vec<_> = words.iter().chain(added).cloned().collect();
@@ -121,10 +131,16 @@ impl Call for Lookup {
 
 impl Lookup {
     /// A store of a size that a list can hold, whose unused slots hold one byte, in the place of an empty one.
-    fn store_to_record(&self, random: &mut Random, empty: &Scene, words: &[Vec<u8>]) -> Rc<Scene> {
+    fn store_to_record(
+        &self,
+        random: &mut Random,
+        empty: &Scene,
+        words: &[Vec<u8>],
+        exact: bool,
+    ) -> Rc<Scene> {
         let slots = random.between(1, 7);
         let adds = random.below(2 * slots);
-        let add = |_| store_shapes::few_phones(random, empty, words, &self.phones);
+        let add = |_| store_shapes::few_phones(random, empty, words, &self.phones, exact);
         let adds: Vec<Add> = (0..adds).map(add).collect();
         let new = empty.with_store(stores::new(slots, random.byte()));
         let store = new.grown(&adds);
@@ -151,11 +167,25 @@ fn to_record(random: &mut Random, scene: &Rc<Scene>, words: &[Vec<u8>]) -> Input
     }
 }
 
+/// A word near some others; where a store has exact entries, more often one of theirs, with its tag or any.
+pub fn wanted(random: &mut Random, scene: &Scene, words: &[Vec<u8>]) -> Wanted {
+    let entries = scene.entries.iter().flatten().map(|placed| &placed.entry);
+    let exact: Vec<&Entry> = entries.filter(|entry| entry.exact).collect();
+    if exact.is_empty() || random.once_in(4) {
+        return Wanted::new(words::near(random, words), words::tag(random));
+    }
+    let Entry { word, tag, .. } = exact[random.below(exact.len())];
+    let tag = if random.once_in(2) { words::tag(random) } else { vec![*tag] };
+    let word = if random.once_in(4) { words::recased(random, word) } else { word.clone() };
+    Wanted::new(word, tag)
+}
+
 /// A lexicon with a store, one in five of them broken in some way, and words around both.
 pub fn scene(random: &mut Random, phones: &Phones) -> (Rc<Scene>, Vec<Vec<u8>>) {
     let Shape { lexicon, mut words } = lexicon_shapes::whole(random, phones);
     let empty = Scene::of(lexicon, stores::new(1, 0));
-    let store = store_shapes::random(random, &empty, &words, phones);
+    let exact = !random.once_in(4);
+    let store = store_shapes::random(random, &empty, &words, phones, exact);
     let scene = match random.once_in(5) {
         true => Scene::of(lexicon_shapes::broken(random, &empty.lexicon), store),
         false => empty.with_store(store),

@@ -14,7 +14,7 @@ pub struct PhoneString {
 impl Call for PhoneString {
     type Input = Input;
     const NAME: &'static str = "phone_string";
-    const SHARE: usize = 12;
+    const SHARE: usize = 10;
     const SHARE_RECORDED: usize = 12;
     const ANSWERS: Rows = &["no bytes", "bytes 1 to 20", "bytes 21 and more"];
     const REFUSALS: &'static [u32] = &[2, 9];

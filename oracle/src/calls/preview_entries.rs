@@ -15,7 +15,7 @@ pub struct PreviewEntries {
 impl Call for PreviewEntries {
     type Input = Input;
     const NAME: &'static str = "preview_entries";
-    const SHARE: usize = 40;
+    const SHARE: usize = 56;
     const SHARE_RECORDED: usize = 8;
     const ANSWERS: Rows = TAKEN;
     const REFUSALS: &'static [u32] = &[1, 2, 3, 4, 5, 7, 8];
@@ -28,6 +28,7 @@ impl Call for PreviewEntries {
         &[&["2: and a high byte in the text", "2: and the largest count"]],
         rule::NUMBERS,
         STORE_ORDER,
+        store_edges::EXACT,
         UNSOUND,
     ];
     const LIBRARY: Function = ours::preview_entries;
@@ -45,6 +46,10 @@ impl Call for PreviewEntries {
         let filled = filled(input, met)?;
         let answer = filled.answer(filled.numbers());
         Ok(Told::new(answer, filled.row(), vec![filled.spare()]))
+    }
+
+    fn has_exact(&self, input: &Input) -> bool {
+        input.scene.has_exact()
     }
 
     fn lent<'a>(&self, input: &'a Input) -> Vec<Part<'a>> {

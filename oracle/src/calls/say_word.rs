@@ -26,9 +26,9 @@ pub struct SayWord {
 impl Call for SayWord {
     type Input = Input;
     const NAME: &'static str = "say_word";
-    const SHARE: usize = 40;
+    const SHARE: usize = 54;
     const SHARE_RECORDED: usize = 40;
-    const ANSWERS: Rows = &["runtime", "addenda", "compiled", "letters"];
+    const ANSWERS: Rows = &["runtime", "runtime, exact", "addenda", "compiled", "letters"];
     const REFUSALS: &'static [u32] = &[1, 2, 3, 6, 7, 9];
     const MET: Table = &[
         rule::ROWS,
@@ -45,6 +45,7 @@ impl Call for SayWord {
         places::ROWS,
         places::UNTOLD,
         sheets::UNSOUND,
+        lookup::EXACT,
         stores::UNSOUND,
     ];
     const LIBRARY: Function = ours::say_word;
@@ -59,11 +60,12 @@ impl Call for SayWord {
             let input = without_word(scene, tree_shapes::random(random));
             (Sources { input, words }, lookup::WORDS)
         });
-        let word = match random.weighted(&[5, 3]) {
-            0 => words::near(random, words),
-            _ => words::random(random, &input.trees.alphabet),
+        let wanted = match random.weighted(&[5, 3]) {
+            0 => lookup::wanted(random, &input.scene, words),
+            _ => {
+                Wanted::new(words::random(random, &input.trees.alphabet), words::tag(random))
+            }
         };
-        let wanted = Wanted::new(word, words::tag(random));
         let mut input = Input { wanted, ..input.clone() };
         if input.sheet.is_empty() || random.once_in(2) {
             let need = on_any_sheet(&input).map_or(5, |word| word.items());
@@ -117,6 +119,10 @@ impl Call for SayWord {
         Ok(Told::new(Answer::accepted(0, 0).and(place), origin.row, vec![after]))
     }
 
+    fn has_exact(&self, input: &Input) -> bool {
+        input.scene.has_exact()
+    }
+
     fn lent<'a>(&self, input: &'a Input) -> Vec<Part<'a>> {
         let Input { sheet, scene, trees, wanted } = input;
         let sections = scene.lexicon.sections.parts().into_iter().chain(trees.sections.parts());
@@ -139,7 +145,7 @@ impl Call for SayWord {
                 let slots = [1, 1, 2, 3, 4][random.below(5)];
                 let store = stores::new(slots, random.byte() * (slots > 2) as u8);
                 sources.input.scene = sources.input.scene.with_store(store);
-                let utterance = self.utterance(random, &sources, left.min(5));
+                let utterance = self.utterance(random, &sources, left.min(5), set % 2 == 0);
                 left -= utterance.len();
                 lines.extend(self.recorded(random, &utterance));
             }
@@ -151,7 +157,9 @@ impl Call for SayWord {
 /// The word by the original, with the phones that the driver finds by 01's rule.
 fn said(input: &Input, origin: &lookup::Origin) -> Result<Word, String> {
     let Input { scene, trees, wanted, .. } = input;
-    let mut said = spoken::say(scene.original(), trees.original(), &[wanted.clone()])?;
+    let mut said = scene.asked_for(&wanted.word, |original| {
+        spoken::say(original, trees.original(), std::slice::from_ref(wanted))
+    })?;
     let word = said.words.pop().ok_or("the original says no word")?;
     let phones: Vec<&[u8]> = word.phones().map(|phone| &phone[..]).collect();
     if phones.join(&b" "[..]) != said.phone_string.as_bytes() {
@@ -176,16 +184,23 @@ fn without_word(scene: Rc<Scene>, trees: Trees) -> Input {
 }
 
 impl SayWord {
-    /// Words to say on one sheet, at most so many, with entries that may change between them. The last has a
+    /// Words to say on one sheet, at most so many, with entries that may change between them, exact ones too. The last has a
     /// sheet that is large enough for all of them; the first finds it new.
-    fn utterance(&self, random: &mut Random, sources: &Sources, most: usize) -> Vec<Input> {
+    fn utterance(
+        &self,
+        random: &mut Random,
+        sources: &Sources,
+        most: usize,
+        exact: bool,
+    ) -> Vec<Input> {
         let (mut input, words) = (sources.input.clone(), &sources.words);
         let (mut inputs, mut need) = (vec![], 0);
         let count = random.between(1, most);
         while inputs.len() < count {
             if random.once_in(2) && stores::room(&input.scene.store) > 0 {
-                let add = store_shapes::few_phones(random, &input.scene, words, &self.phones);
-                input.scene = input.scene.with_store(input.scene.grown(&[add]));
+                let (scene, phones) = (&input.scene, &self.phones);
+                let add = store_shapes::few_phones(random, scene, words, phones, exact);
+                input.scene = scene.with_store(scene.grown(&[add]));
             }
             let entries = input.scene.entries();
             let word = match random.weighted(&[4, 3, 2 * entries.len().min(1)]) {

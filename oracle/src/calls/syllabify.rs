@@ -14,7 +14,7 @@ pub struct Syllabify {
 impl Call for Syllabify {
     type Input = Input;
     const NAME: &'static str = "syllabify";
-    const SHARE: usize = 30;
+    const SHARE: usize = 18;
     const SHARE_RECORDED: usize = 33;
     const ANSWERS: Rows =
         &["marks 0", "one syllable", "2 syllables", "3 to 6 syllables", "7 syllables and more"];

@@ -15,7 +15,7 @@ impl Call for TwoSteps {
     const SHARE: usize = 6;
     const ANSWERS: Rows = TAKEN;
     const REFUSALS: &'static [u32] = &[1, 2, 3, 4, 5, 7, 8, 12];
-    const MET: Table = &[rule::NUMBERS, store_edges::RAISED];
+    const MET: Table = &[rule::NUMBERS, store_edges::RAISED, store_edges::EXACT];
     const LIBRARY: Function = ours::two_steps;
 
     fn short(&self) -> Vec<Input> {
@@ -32,6 +32,7 @@ impl Call for TwoSteps {
         refusal(input, false, text)?;
         let filled = filled(input, text)?;
         met.all(rule::of_numbers(&filled, &input.scene));
+        met.all(store_edges::of_exact(input.scene.entries()));
         let before = &input.scene.store;
         let (answer, store) = match filled.answer(filled.numbers()) {
             // the second step refuses what the first has filled
@@ -42,6 +43,10 @@ impl Call for TwoSteps {
             told => (told, before.clone()),
         };
         Ok(Told::new(answer, filled.row(), vec![store, filled.spare()]))
+    }
+
+    fn has_exact(&self, input: &Input) -> bool {
+        input.scene.has_exact()
     }
 
     fn lent<'a>(&self, input: &'a Input) -> Vec<Part<'a>> {

@@ -8,7 +8,7 @@ pub struct Function {
     pub answer: String,
 }
 
-/// A slice, which C gets as a pointer and then a length, or a number.
+/// A slice, which C gets as a pointer and then a length, or a number; a bool counts as one.
 #[derive(Debug, PartialEq, Eq)]
 pub enum Argument {
     Slice { name: String, written: bool },
@@ -27,8 +27,13 @@ enum Passed {
 }
 
 /// The kinds of numbers beside those of C.
-const NUMBERS: [(&str, &str); 4] =
-    [("u32", "uint32_t"), ("u64", "uint64_t"), ("i32", "int32_t"), ("f32", "float")];
+const NUMBERS: [(&str, &str); 5] = [
+    ("u32", "uint32_t"),
+    ("u64", "uint64_t"),
+    ("i32", "int32_t"),
+    ("f32", "float"),
+    ("bool", "bool"),
+];
 
 fn number_in_rust(kind: &str) -> Option<&'static str> {
     NUMBERS.iter().find(|(rust, _)| *rust == kind).map(|(rust, _)| *rust)

@@ -151,6 +151,15 @@ const HEADER_ALTERED: &[(&str, &str, &str)] = &[
         "uint32_t value,\n    uint32_t kind);",
         "the header has",
     ),
+    ("bool exact", "uint32_t exact", "the header has"),
+    ("bool exact", "int exact", "no number"),
+    ("bool exact", "bool whole", "the header has"),
+    (",\n    bool exact", "", "the header has"),
+    (
+        "const uint8_t *phones, size_t phones_len,\n    bool exact",
+        "bool exact,\n    const uint8_t *phones, size_t phones_len",
+        "the header has",
+    ),
     ("pronouncer_is_vowel(", "pronouncer_is_a_vowel(", "the header lacks pronouncer_is_vowel"),
     (
         "#endif\n\n#endif",
@@ -181,6 +190,12 @@ const READ_STORE_AND_SPARE: &str = "store: *const u8,
 
 const WRITTEN_STORE_AND_SPARE: &str = "store: *mut u8, store_len: usize, spare: *mut u8,";
 
+const PHONES_AND_EXACT: &str = "phones: *const u8,
+        phones_len: usize,
+        exact: bool,";
+
+const EXACT_AND_PHONES: &str = "exact: bool, phones: *const u8, phones_len: usize,";
+
 const IS_VOWEL: &str = "fn pronouncer_is_vowel(phone: *const u8, phone_len: usize) -> Answer;";
 
 /// Alterations of the binding, each with words of what must be told.
@@ -196,6 +211,10 @@ const BINDING_ALTERED: &[(&str, &str, &str)] = &[
     ("version: u32,\n        show: f32,", "show: f32,\n        version: u32,", "the binding has"),
     ("show: f32", "show: f64", "no number"),
     ("kind: u32,\n        value: u32,", "value: u32,\n        kind: u32,", "the binding has"),
+    ("exact: bool", "exact: u32", "the binding has"),
+    ("exact: bool", "exact: u8", "no number"),
+    ("        exact: bool,\n    ) -> Answer;", "    ) -> Answer;", "the binding has"),
+    (PHONES_AND_EXACT, EXACT_AND_PHONES, "the binding has"),
     (") -> Settings;", ") -> Answer;", "the binding has"),
     ("store_len: usize) -> Answer", "store_len: usize) -> u32", "the binding has"),
     ("store_len: usize) -> Answer", "store_len: usize)", "answers nothing"),
@@ -236,6 +255,9 @@ fn an_altered_source_is_told() {
             "pronouncer_accept_entries(store: &mut [u8], spare: &[u8])",
             "pronouncer_accept_entries(spare: &[u8], store: &mut [u8])",
         ),
+        ("exact: bool,\n", ""),
+        ("exact: bool,\n", "exact: u32,\n"),
+        ("phones: &[u8],\n    exact: bool,\n", "exact: bool,\n    phones: &[u8],\n"),
         ("version: u32, show: f32", "version: u32, show: u32"),
         ("version: u32, show: f32", "show: f32, version: u32"),
         ("fn pronouncer_new_sheet(", "fn pronouncer_next_sheet("),

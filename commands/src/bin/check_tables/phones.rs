@@ -90,8 +90,9 @@ fn is_known(phone: &str) -> bool {
     cell[0] = bare.len() as u8;
     cell[1..=bare.len()].copy_from_slice(bare.as_bytes());
     let nothing = Lexicon { phones: &[0; 4], index: &[0; 4], data: &[] };
-    let added = Store::new_store(&mut slots)
-        .and_then(|mut store| store.add_entry(&nothing, "a", "", PhoneList::from_cells(&cell)));
+    let added = Store::new_store(&mut slots).and_then(|mut store| {
+        store.add_entry(&nothing, "a", "", PhoneList::from_cells(&cell), false)
+    });
     !added.is_err_and(|refused| refused.refusal == Refusal::UnknownPhone)
 }
 

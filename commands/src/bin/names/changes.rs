@@ -5,17 +5,18 @@ use pronouncer::{Entry, Lexicon, PhoneList, Refused, Store};
 
 /// An entry, named as it is typed.
 pub fn entry(entry: &Entry) -> String {
-    line(format!("{}: {}", key(entry), phones(entry.phones)))
+    line(entry, &format!("{}: {}", key(entry), phones(entry.phones)))
 }
 
 /// What becomes of a store by an entry.
 pub fn of_entry(store: &Store, entry: &Entry) -> String {
     let (key, new) = (key(entry), phones(entry.phones));
-    let old = store.iter().find(|old| (old.word, old.tag) == (entry.word, entry.tag));
-    line(match old {
+    let same = |old: &Entry| (old.word, old.tag, old.exact) == (entry.word, entry.tag, entry.exact);
+    let told = match store.iter().find(same) {
         Some(old) => format!("replaces {key}: {} -> {new}", phones(old.phones)),
         None => format!("new {key}: {new}"),
-    })
+    };
+    line(entry, &told)
 }
 
 /// What becomes of a store by a text that it takes whole: the text's entries are those of an empty store that takes it.
@@ -39,6 +40,7 @@ fn phones(list: PhoneList) -> String {
     }
 }
 
-fn line(text: String) -> String {
-    one_line(&text) + "\n"
+/// What is told of an entry, with the remark that it is exact, as `Debug` has it.
+fn line(entry: &Entry, told: &str) -> String {
+    one_line(told) + if entry.exact { " # exact\n" } else { "\n" }
 }

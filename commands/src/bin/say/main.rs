@@ -35,7 +35,8 @@ slash, as lead/v. With no WORD, words are read from standard input, and each lin
   --entries FILE    lines `word tag : phones`, which are added first, behind the store's; of several files the later
                     ones come behind
   --plain           a word that is not found is asked in small letters, then without outer punctuation, then without
-                    a last 's, 've, 'll or 'd, which is asked behind it; what was asked stands behind ->
+                    a last 's, 've, 'll or 'd, which is asked behind it; the last two with its capitals first; what was
+                    asked stands behind ->
   --help            this text
   --version         the version
 

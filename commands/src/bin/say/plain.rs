@@ -7,23 +7,30 @@ use crate::desk::Desk;
 /// Endings that are words of their own.
 const ENDINGS: [&[u8]; 4] = [b"'s", b"'ve", b"'ll", b"'d"];
 
-/// The words to ask for: the typed one if it is found, else it in small letters, else that without outer punctuation,
-/// else that with its ending parted from it.
+/// The words to ask for: the typed one if it is found, else it without outer punctuation, else that with its ending
+/// parted from it; each in small letters where it is not found with its capitals.
 pub fn words(desk: &Desk, typed: &Word) -> Vec<Word> {
-    let with = |text: &[u8]| Word { text: text.to_vec(), tag: typed.tag.clone() };
-    let folded = with(&typed.text.to_ascii_lowercase());
-    let bare = with(without_punctuation(&folded.text));
-    if desk.has(typed) {
-        return vec![typed.clone()];
+    let with = |text: Vec<u8>| Word { text, tag: typed.tag.clone() };
+    let asked = |text: &[u8]| {
+        let word = with(text.to_vec());
+        if desk.has(&word) {
+            word
+        } else {
+            with(text.to_ascii_lowercase())
+        }
+    };
+    let (whole, inner) = (asked(&typed.text), without_punctuation(&typed.text));
+    if inner.is_empty() || desk.has(&whole) {
+        return vec![whole];
     }
-    if desk.has(&folded) || bare.text.is_empty() {
-        return vec![folded];
-    }
+    let bare = asked(inner);
     if desk.has(&bare) {
         return vec![bare];
     }
     match parted(&bare.text) {
-        Some((stem, ending)) => vec![with(stem), Word { text: ending.to_vec(), tag: Vec::new() }],
+        Some((stem, ending)) => {
+            vec![asked(&inner[..stem.len()]), Word { text: ending.to_vec(), tag: Vec::new() }]
+        }
         None => vec![bare],
     }
 }

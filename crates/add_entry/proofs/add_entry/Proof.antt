@@ -1,22 +1,21 @@
 -- `add_entry` meets its contract: each return is decided by the first test of the definition that fails. Assumes nothing.
-use Rattle.lexicon_spec.specs.Adding.{mayAddAll, newEntry}
+use Rattle.lexicon_spec.specs.Adding.{mayAddAll, storedWord, newEntry}
 use Rattle.add_entry.specs.AddEntry.{addEntry, storeAfter}
-use Rattle.store_spec.specs.Adding.{entryFor, added, isFull, kept}
+use Rattle.store_spec.specs.Adding.{entryFor, isFull, kept}
 use Rattle.store_spec.specs.Store.{isSound, count, withCount, largest}
 use Rattle.store_spec.specs.Sound.{sound}
 use Rattle.store_spec.specs.Result.{long}
 use Rattle.data.specs.Sections.{isPhoneTable}
 use Rattle.cells.specs.Cells.{asciiPhones}
-use Rattle.texts.specs.Text.{folded, isWord, word-short}
+use Rattle.texts.specs.Text.{isWord, word-short}
 use Rattle.texts.specs.Choice.{both-true}
 use Rattle.slots_spec.specs.Slot.{Entry}
 use Rattle.answers.specs.Told.{refused, accepted}
-use native.Mathlib.Omega.{arith}
 use borrow.Author.Tests.{not-true, not-false, le-ltb, lt-ltb, eq-eqb, ne-eqb}
 use lib.ListN.{length}
 use lib.Dec.{eqb, ltb}
-use mathlib.Core.List.{List, map}
-use mathlib.Core.Bool.{true, false, _&&_}
+use mathlib.Core.List.{List}
+use mathlib.Core.Bool.{Bool, true, false, _&&_}
 use mathlib.Core.Path.{_≡_, refl, sym, ap, _∙_}
 use Prim.Native.Nat.{ℕ, _+_, _/_, _≤_}
 use borrow.Author.Needs.{needs}
@@ -32,12 +31,12 @@ record Passed (table store word tag phones : List ℕ) : Type 0 where
   known : mayAddAll table phones ≡ true
   few : ltb 24 (length phones / 16) ≡ false
 
-module _ (table store word tag phones : List ℕ) (p : Passed table store word tag phones) where
-  no-room : isFull store (newEntry word tag phones) ≡ true → (refused 8 0 ≡ addEntry table store word tag phones) × (kept store (newEntry word tag phones) ≡ storeAfter table store word tag phones)
+module _ (table store word tag phones : List ℕ) (exact : Bool) (p : Passed table store word tag phones) where
+  no-room : isFull store (newEntry word tag phones exact) ≡ true → (refused 8 0 ≡ addEntry table store word tag phones exact) × (kept store (newEntry word tag phones exact) ≡ storeAfter table store word tag phones exact)
   unfolding addEntry storeAfter kept
   no-room f = (rw (p .tabled, p .stored, p .rises, p .texts, p .known, p .few, f), rw (p .tabled, p .stored, p .rises, p .texts, p .known, p .few, f))
 
-  entered : isFull store (newEntry word tag phones) ≡ false → (accepted 0 0 ≡ addEntry table store word tag phones) × (withCount (kept store (newEntry word tag phones)) (count store + 1) ≡ storeAfter table store word tag phones)
+  entered : isFull store (newEntry word tag phones exact) ≡ false → (accepted 0 0 ≡ addEntry table store word tag phones exact) × (withCount (kept store (newEntry word tag phones exact)) (count store + 1) ≡ storeAfter table store word tag phones exact)
   unfolding addEntry storeAfter kept
   entered f = (rw (p .tabled, p .stored, p .rises, p .texts, p .known, p .few, f), rw (p .tabled, p .stored, p .rises, p .texts, p .known, p .few, f))
 
@@ -75,7 +74,9 @@ short c =
     let a = c .before .before .before .before .before .before .before .before .before .before .before .before .before .before .before .before .args in
     word-short (a .word .now) (both-true (isWord (a .word .now)) (isWord (a .tag .now)) (both-true (isWord (a .word .now) && isWord (a .tag .now)) (asciiPhones (a .phones .now)) (hasTexts c) .0) .0)
 
-entry-is : (c : tie.After-added-tag) → entryFor (c .added-tag .result) (map folded (c .before .before .before .before .before .before .before .before .before .before .before .before .before .before .before .before .before .before .before .before .before .args .word .now)) (c .before .before .before .before .before .before .before .before .before .before .before .before .before .before .before .before .before .before .before .before .before .args .phones .now) ≡ newEntry (c .before .before .before .before .before .before .before .before .before .before .before .before .before .before .before .before .before .before .before .before .before .args .word .now) (c .before .before .before .before .before .before .before .before .before .before .before .before .before .before .before .before .before .before .before .before .before .args .tag .now) (c .before .before .before .before .before .before .before .before .before .before .before .before .before .before .before .before .before .before .before .before .before .args .phones .now)
+entry-is : (c : tie.After-added-tag)
+    → entryFor (c .added-tag .result) (storedWord (c .before .before .before .before .before .before .before .before .before .before .before .before .before .before .before .before .before .before .before .before .before .args .exact) (c .before .before .before .before .before .before .before .before .before .before .before .before .before .before .before .before .before .before .before .before .before .args .word .now)) (c .before .before .before .before .before .before .before .before .before .before .before .before .before .before .before .before .before .before .before .before .before .args .phones .now) (c .before .before .before .before .before .before .before .before .before .before .before .before .before .before .before .before .before .before .before .before .before .args .exact)
+    ≡ newEntry (c .before .before .before .before .before .before .before .before .before .before .before .before .before .before .before .before .before .before .before .before .before .args .word .now) (c .before .before .before .before .before .before .before .before .before .before .before .before .before .before .before .before .before .before .before .before .before .args .tag .now) (c .before .before .before .before .before .before .before .before .before .before .before .before .before .before .before .before .before .before .before .before .before .args .phones .now) (c .before .before .before .before .before .before .before .before .before .before .before .before .before .before .before .before .before .before .before .before .before .args .exact)
 unfolding newEntry
 entry-is c = rw (c .added-tag .ensures)
 
@@ -166,36 +167,36 @@ returns-6 c =
 added-tag-requires : tie.Need-added-tag-requires
 added-tag-requires c κs = search needs
 
-add-folded-requires : tie.Need-add-folded-requires
-add-folded-requires c κs = (isStore (c .before .before .before .before .before .before .before .before .before .before .before), short (c .before .before .before .before .before), c .before .before .if6 .left)
+add-requires : tie.Need-add-requires
+add-requires c κs = (isStore (c .before .before .before .before .before .before .before .before .before .before .before), short (c .before .before .before .before .before), c .before .before .if6 .left)
 
 add-set-count : tie.Need-add-set-count
 add-set-count c = search needs
 
 set-count-requires : tie.Need-set-count-requires
-set-count-requires c κs = rw (c .before .before .before .before .add-folded .kept .0) (isLong (c .before .before .before .before .before .before .before .before .before .before .before .before .before .before .before .before))
+set-count-requires c κs = rw (c .before .before .before .before .add .kept .0) (isLong (c .before .before .before .before .before .before .before .before .before .before .before .before .before .before .before .before))
 
 same-length-6 : tie.Need-same-length-6
-same-length-6 c = c .before .before .set-count .kept .0 ∙ c .before .before .before .before .before .before .before .add-folded .kept .0
+same-length-6 c = c .before .before .set-count .kept .0 ∙ c .before .before .before .before .before .before .before .add .kept .0
 
 returns-7 : tie.Need-returns-7
 returns-7 c =
     let a = c .before .before .before .before .before .before .before .before .before .before .before .before .before .before .before .before .before .before .before .before .before .before .before .before .before .before .before .before .before .args in
     let e = entry-is (c .before .before .before .before .before .before .before .before) in
-    let f = not-true (isFull (a .store .now) (newEntry (a .word .now) (a .tag .now) (a .phones .now))) (rw (← e) (sym (c .before .before .before .before .before .before .before .add-folded .ensures .0) ∙ c .before .before .before .before .if7 .taken)) in
-    let r = entered (a .table .now) (a .store .now) (a .word .now) (a .tag .now) (a .phones .now) (passed (c .before .before .before .before .before .before .before .before .before .before)) f in
-    (r .0, c .before .before .set-count .ensures ∙ rw (c .before .before .before .before .before .before .before .add-folded .ensures .1 ∙ ap (λ (x : Entry). kept (a .store .now) x) e, c .before .before .before .before .before .before .before .before .before .before .before .before .before .before .before .before .before .count .ensures) (r .1))
+    let f = not-true (isFull (a .store .now) (newEntry (a .word .now) (a .tag .now) (a .phones .now) (a .exact))) (rw (← e) (sym (c .before .before .before .before .before .before .before .add .ensures .0) ∙ c .before .before .before .before .if7 .taken)) in
+    let r = entered (a .table .now) (a .store .now) (a .word .now) (a .tag .now) (a .phones .now) (a .exact) (passed (c .before .before .before .before .before .before .before .before .before .before)) f in
+    (r .0, c .before .before .set-count .ensures ∙ rw (c .before .before .before .before .before .before .before .add .ensures .1 ∙ ap (λ (x : Entry). kept (a .store .now) x) e, c .before .before .before .before .before .before .before .before .before .before .before .before .before .before .before .before .before .count .ensures) (r .1))
 
 same-length-7 : tie.Need-same-length-7
-same-length-7 c = c .before .before .before .add-folded .kept .0
+same-length-7 c = c .before .before .before .add .kept .0
 
 returns-8 : tie.Need-returns-8
 returns-8 c =
     let a = c .before .before .before .before .before .before .before .before .before .before .before .before .before .before .before .before .before .before .before .before .before .before .before .before .before .args in
     let e = entry-is (c .before .before .before .before) in
-    let f = not-false (isFull (a .store .now) (newEntry (a .word .now) (a .tag .now) (a .phones .now))) (rw (← e) (sym (c .before .before .before .add-folded .ensures .0) ∙ c .if7 .left)) in
-    let r = no-room (a .table .now) (a .store .now) (a .word .now) (a .tag .now) (a .phones .now) (passed (c .before .before .before .before .before .before)) f in
-    (r .0, c .before .before .before .add-folded .ensures .1 ∙ ap (λ (x : Entry). kept (a .store .now) x) e ∙ r .1)
+    let f = not-false (isFull (a .store .now) (newEntry (a .word .now) (a .tag .now) (a .phones .now) (a .exact))) (rw (← e) (sym (c .before .before .before .add .ensures .0) ∙ c .if7 .left)) in
+    let r = no-room (a .table .now) (a .store .now) (a .word .now) (a .tag .now) (a .phones .now) (a .exact) (passed (c .before .before .before .before .before .before)) f in
+    (r .0, c .before .before .before .add .ensures .1 ∙ ap (λ (x : Entry). kept (a .store .now) x) e ∙ r .1)
 
 pub add-entry-spec : {M : Type 1} → statement M
 add-entry-spec =
@@ -219,7 +220,7 @@ add-entry-spec =
     same-length-5
     returns-6
     added-tag-requires
-    add-folded-requires
+    add-requires
     add-set-count
     set-count-requires
     same-length-6

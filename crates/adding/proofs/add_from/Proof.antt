@@ -1,5 +1,4 @@
 -- `adding::add_from` meets its contract: room's front is the folded word, which is what the store is asked to add. Assumes nothing.
-use Rattle.slots_spec.specs.Slot.{folded-small}
 use Rattle.records.specs.Records.{take-front}
 use Rattle.texts.specs.Text.{folded}
 use lib.ListN.{length, take, length-map}
@@ -29,7 +28,7 @@ add-requires c κs =
     let a = c .before .before .before .before .before .before .before .before .before .before .before .args in
     let w = folded-is (c) in
     let l = length-map (a .word .now) folded in
-    (c .before .before .before .before .before .before .before .before .before .before .before .pre .1, rw w (folded-small (a .word .now)), rw w (omega arith), c .before .before .before .before .before .before .before .before .before .before .before .pre .3)
+    (c .before .before .before .before .before .before .before .before .before .before .before .pre .1, rw w (omega arith), c .before .before .before .before .before .before .before .before .before .before .before .pre .3)
 
 same-length : tie.Need-same-length
 same-length c = search needs

@@ -1,6 +1,6 @@
 -- The lines taken are the slots newly used and the lines that replaced an entry, since one goes for each of the latter.
 -- Assumes nothing.
-use Prim.Native.Nat.{ℕ, suc, _+_, _-_, _≤_}
+use Prim.Native.Nat.{ℕ, _+_, _-_, _≤_}
 use native.Mathlib.Omega.{arith}
 use mathlib.Core.Path.{_≡_, refl, ap, _∙_}
 use mathlib.Core.Bool.{Bool, true, false, not}
@@ -16,18 +16,13 @@ use Rattle.store_spec.specs.Store.{used, entries, sameKey, keysDiffer}
 use Rattle.store_spec.specs.Adding.{without, adding}
 use Rattle.store_spec.specs.Sound.{Sound, entries-are}
 use Rattle.store_spec.specs.Result.{used-is}
-use Rattle.store_spec.specs.Laws.Keys.{either-false, key-both, keys-adding, without-none}
+use Rattle.store_spec.specs.Laws.Keys.{keys-adding, without-none, none-same}
 use Rattle.answers.specs.Laws.Numbers.{refused-never}
 use Rattle.addtext_spec.specs.Line.{Line, skipped, faulty, entry, readLine, behindLine, outcome}
-use Rattle.addtext_spec.specs.Filling.{Filled, onward, filled, entriesOf, lineEntries, addingAll, replacing}
+use Rattle.addtext_spec.specs.Filling.{onward, filled, entriesOf, lineEntries, addingAll, replacing}
 use Rattle.addtext_spec.specs.Grown.{past, judged-as, all-added}
 
 -- of entries whose keys differ at most one goes
-same-none : (e x : Entry) (xs : List Entry) → sameKey e x ≡ true → some (sameKey x) xs ≡ false → some (sameKey e) xs ≡ false
-unfolding some
-same-none e x [] k h = refl
-same-none e x (y ∷ ys) k h = let s = either-false (sameKey x y) (some (sameKey x) ys) h in rw (key-both e x y k, s .0) (same-none e x ys k (s .1))
-
 one-goes : (e : Entry) (es : List Entry) → keysDiffer es ≡ true → length (without e es) + bit (some (sameKey e) es) ≡ length es
 unfolding without some keysDiffer
 one-goes e [] d = refl
@@ -35,7 +30,7 @@ one-goes e (x ∷ xs) d =
     let t = both-true (not (some (sameKey x) xs)) (keysDiffer xs) d in
     let ih = one-goes e xs (t .1) in
     cases (sameKey e x)
-    (λ k. let n = same-none e x xs k (not-true (some (sameKey x) xs) (t .0)) in rw (k, without-none e xs n) (omega arith))
+    (λ k. let n = none-same e x xs k (not-true (some (sameKey x) xs) (t .0)) in rw (k, without-none e xs n) (omega arith))
     (λ k. rw k (omega (arith, ih)))
 
 -- entries added in turn: those that replace one make no more of them

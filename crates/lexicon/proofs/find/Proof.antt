@@ -1,29 +1,21 @@
 -- `lexicon::find` meets its contract: the store, the addenda and the compiled entries, in that order. Assumes nothing.
 use native.Mathlib.Omega.{arith}
-use Rattle.lexicon_spec.specs.Lookup.{find-runtime, find-row, find-compiled}
-use Rattle.store_spec.specs.Laws.Found.{tells, foundAt, found-none, found-some}
-use Rattle.store_spec.specs.Sound.{sound}
-use Rattle.store_spec.specs.Store.{isWanted, entries, entryAt}
+use Rattle.lexicon_spec.specs.Lookup.{chosenEntry, find-runtime, find-row, find-compiled}
+use Rattle.store_spec.specs.Laws.Found.{foundAt, found-none, found-some}
+use Rattle.store_spec.specs.Store.{entries, entryAt}
 use Rattle.slots_spec.specs.Slot.{entryOf}
-use Rattle.texts.specs.Text.{folded}
-use Rattle.texts.specs.Lists.{first}
-use mathlib.Core.List.{List, map}
-use mathlib.Core.Bool.{true}
+use mathlib.Core.List.{List}
 use mathlib.Core.Path.{_≡_, sym, ap, _∙_}
 use Prim.Native.Nat.{ℕ}
 use borrow.Author.Needs.{needs}
 use Rattle.lexicon.proofs.find.Statement.{statement}
 use Rattle.lexicon.proofs.find.Tie as tie
 
-which : (c : tie.After-runtime) → first (isWanted true (map folded (c .before .before .before .before .before .before .before .before .args .word .now)) (c .before .before .before .before .before .before .before .before .args .tag)) (entries (c .before .before .before .before .before .before .before .before .args .store .now)) ≡ foundAt (c .before .before .before .before .before .before .before .before .args .store .now) (c .runtime .result)
-which c =
-    let a = c .before .before .before .before .before .before .before .before .args in
-    let b = a .store .now in
-    tells b (isWanted true (map folded (a .word .now)) (a .tag)) (sound b (c .before .before .before .before .before .before .before .before .pre .1 .1)) .which
-    ∙ ap (foundAt b) (sym (c .runtime .ensures .0))
+which : (c : tie.After-runtime) → chosenEntry (entries (c .before .before .before .before .before .before .before .before .args .store .now)) (c .before .before .before .before .before .before .before .before .args .word .now) (c .before .before .before .before .before .before .before .before .args .tag) ≡ foundAt (c .before .before .before .before .before .before .before .before .args .store .now) (c .runtime .result)
+which c = sym (c .runtime .ensures .0)
 
 runtime-requires : tie.Need-runtime-requires
-runtime-requires c κs = c .before .before .before .before .before .before .before .pre .1 .2
+runtime-requires c κs = let p = c .before .before .before .before .before .before .before .pre .1 in (p .1, p .2)
 
 slot-requires : tie.Need-slot-requires
 slot-requires c κs = omega (arith, c .before .runtime .ensures .1)

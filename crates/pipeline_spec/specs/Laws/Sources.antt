@@ -3,7 +3,7 @@
 use Prim.Native.Nat.{ℕ, _-_}
 use native.Mathlib.Omega.{arith}
 use mathlib.Core.Path.{_≡_, refl}
-use mathlib.Core.Bool.{true, _&&_}
+use mathlib.Core.Bool.{true, false, _&&_}
 use mathlib.Core.List.{List, [], _∷_, map}
 use mathlib.Core.Option.{Option, none, some}
 use lib.Dec.{leb, ltb}
@@ -27,7 +27,7 @@ use Rattle.compiled_spec.specs.Search.{chosen}
 use Rattle.compiled_spec.specs.declared.Chosen.{Chosen}
 use Rattle.compiled_spec.specs.declared.Chosen.the-variants.{Damaged as entryDamaged, Missing, Entry as At}
 use Rattle.lts_spec.specs.FewPhones.{table-phone}
-use Rattle.lexicon_spec.specs.Lookup.{Finding, nothing, damaged, found, onEntry, onRow, onChosen, fromCompiled, find}
+use Rattle.lexicon_spec.specs.Lookup.{orElse, chosenEntry, Finding, nothing, damaged, found, onEntry, onRow, onChosen, fromCompiled, find}
 
 -- phones of at most 15 bytes
 abbrev pub Fit : Finding → Type 0
@@ -69,10 +69,22 @@ chosen-fit table index dat (At i) t =
     (λ e. rw e (numbers-fit table (numbersOf (compiledAt index dat i)) t))
     (λ e. rw e tt)
 
+-- an entry that is chosen fits, as all do
+either-passes : (a b : Option Entry) → Passes fits a → Passes fits b → Passes fits (orElse a b)
+either-passes none b h k = k
+either-passes (some e) b h k = h
+
+chosen-passes : (es : List Entry) (word : List ℕ) (tag : ℕ) → every fits es ≡ true → Passes fits (chosenEntry es word tag)
+unfolding chosenEntry
+chosen-passes es word tag h =
+    let exact = isWanted true true word tag in
+    let ordinary = isWanted false true (map folded word) tag in
+    either-passes (first exact es) (first ordinary es) (first-passes exact fits es h) (first-passes ordinary fits es h)
+
 pub find-fit : (es : List Entry) (table index dat word : List ℕ) (tag : ℕ) → every fits es ≡ true → isPhoneTable table ≡ true → Fit (find es table index dat word tag)
 unfolding find fromCompiled
 find-fit es table index dat word tag h t =
-    entry-fit (first (isWanted true (map folded word) tag) es) (onRow (first (isMeant word tag) addenda) (fromCompiled table index dat word tag)) (first-passes (isWanted true (map folded word) tag) fits es h)
+    entry-fit (chosenEntry es word tag) (onRow (first (isMeant word tag) addenda) (fromCompiled table index dat word tag)) (chosen-passes es word tag h)
     (row-fit (first (isMeant word tag) addenda) (fromCompiled table index dat word tag) (first-passes (isMeant word tag) rowFits addenda addenda-fit)
     (chosen-fit table index dat (chosen index dat word tag) t))
 

@@ -1,6 +1,6 @@
 -- `slots::is_key` meets its contract: each return is decided by the first test of the definition that fails. Assumes nothing.
-use Rattle.slots_spec.specs.Slot.{entryOf, isFolded}
-use Rattle.slots_spec.specs.Laws.Parts.{isKey}
+use Rattle.slots_spec.specs.Slot.{entryOf}
+use Rattle.slots_spec.specs.Laws.Parts.{isStored, isKey}
 use Rattle.texts.specs.Text.{low, isWord}
 use borrow.Author.Tests.{lt-ltb, le-ltb, not-true, not-false}
 use mathlib.Core.Bool.{true, false}
@@ -17,8 +17,8 @@ isLow c = let e = c .before .tag .ensures in lt-ltb (entryOf (c .before .before 
 worded : (c : tie.Else2) → isWord (entryOf (c .before .before .before .before .before .before .args .slot .now) .word) ≡ true
 worded c = sym (c .before .is-word .ensures ∙ ap isWord (c .before .before .word .ensures)) ∙ not-false (c .before .is-word .result) (c .if2 .left)
 
-small : (c : tie.Else3) → isFolded (entryOf (c .before .before .before .before .before .before .before .before .before .args .slot .now) .word) ≡ true
-small c = sym (c .before .is-folded .ensures ∙ ap isFolded (c .before .before .word2 .ensures)) ∙ not-false (c .before .is-folded .result) (c .if3 .left)
+stored : (c : tie.Else3) → isStored (c .before .before .before .before .before .before .before .before .args .slot .now) ≡ true
+stored c = sym (c .before .is-stored .ensures) ∙ not-false (c .before .is-stored .result) (c .if3 .left)
 
 tag-requires : tie.Need-tag-requires
 tag-requires c κs = search needs
@@ -42,24 +42,21 @@ returns-2 c =
     let w : isWord (entryOf (c .before .before .before .before .before .before .args .slot .now) .word) ≡ false = sym (c .before .is-word .ensures ∙ ap isWord (c .before .before .word .ensures)) ∙ not-true (c .before .is-word .result) (c .if2 .taken) in
     rw (isLow (c .before .before .before), w)
 
-word-requires-2 : tie.Need-word-requires-2
-word-requires-2 c κs = search needs
-
-is-folded-requires : tie.Need-is-folded-requires
-is-folded-requires c κs = search needs
+is-stored-requires : tie.Need-is-stored-requires
+is-stored-requires c κs = search needs
 
 returns-3 : tie.Need-returns-3
 unfolding isKey entryOf
 returns-3 c =
-    let w : isFolded (entryOf (c .before .before .before .before .before .before .before .before .before .args .slot .now) .word) ≡ false = sym (c .before .is-folded .ensures ∙ ap isFolded (c .before .before .word2 .ensures)) ∙ not-true (c .before .is-folded .result) (c .if3 .taken) in
-    rw (isLow (c .before .before .before .before .before .before), worded (c .before .before .before), w)
+    let w : isStored (c .before .before .before .before .before .before .before .before .args .slot .now) ≡ false = sym (c .before .is-stored .ensures) ∙ not-true (c .before .is-stored .result) (c .if3 .taken) in
+    rw (isLow (c .before .before .before .before .before), worded (c .before .before), w)
 
 byte-at-requires : tie.Need-byte-at-requires
 byte-at-requires c κs = search needs
 
 returns-4 : tie.Need-returns-4
 unfolding isKey entryOf
-returns-4 c = rw (isLow (c .before .before .before .before .before .before .before), worded (c .before .before .before .before), small (c .before), ← c .byte-at .ensures)
+returns-4 c = rw (isLow (c .before .before .before .before .before .before), worded (c .before .before .before), stored (c .before), ← c .byte-at .ensures)
 
 pub is-key-spec : {M : Type 1} → statement M
 is-key-spec =
@@ -70,8 +67,7 @@ is-key-spec =
     word-requires
     is-word-requires
     returns-2
-    word-requires-2
-    is-folded-requires
+    is-stored-requires
     returns-3
     byte-at-requires
     returns-4)

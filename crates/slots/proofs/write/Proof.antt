@@ -2,20 +2,25 @@
 use Rattle.slots.proofs.Front.{slot-written}
 use Rattle.slots_spec.specs.Slot.{slot}
 use Rattle.cells.specs.Cells.{phonesOf, cellsOf, length-phonesOf, length-cellsOf, phone-fits}
-use Rattle.texts.specs.Text.{folded}
-use lib.ListN.{length, length-set, length-map}
-use mathlib.Core.List.{map}
+use Rattle.texts.specs.Choice.{bit}
+use lib.ListN.{length, length-set}
+use mathlib.Core.Bool.{Bool, true, false}
 use mathlib.Core.Path.{_≡_, refl, sym, _∙_}
 use native.Mathlib.Omega.{arith}
 use borrow.Author.Needs.{needs}
+use mir.Val.{boolByte}
 use Rattle.slots.proofs.write.Statement.{statement}
 use Rattle.slots.proofs.write.Tie as tie
+
+as-bit : (b : Bool) → boolByte b ≡ bit b
+as-bit true = refl
+as-bit false = refl
 
 long1 : (c : tie.After-slice-known2) → length (c .before .before .put-u16 .last .0) ≡ 512
 long1 c = c .before .before .put-u16 .kept .0 ∙ c .before .before .before .before .before .before .before .pre .0
 
-long2 : (c : tie.After-slice-known3) → length (c .before .before .put-folded .last .0) ≡ 512
-long2 c = c .before .before .put-folded .kept .0 ∙ simp length-set (long1 (c .before .before .before .before))
+long2 : (c : tie.After-slice-known3) → length (c .before .before .copy-in .last .0) ≡ 512
+long2 c = c .before .before .copy-in .kept .0 ∙ simp length-set (long1 (c .before .before .before .before))
 
 long3 : (c : tie.After-slice-known4) → length (c .before .before .clear .last .0) ≡ 512
 long3 c = c .before .before .clear .kept .0 ∙ long2 (c .before .before .before .before)
@@ -41,8 +46,8 @@ cast-slot c = search needs
 slice-write-slot-2 : tie.Need-slice-write-slot-2
 slice-write-slot-2 c = simp length-set (omega (arith, long1 (c)))
 
-put-folded-requires : tie.Need-put-folded-requires
-put-folded-requires c κs = simp length-set (omega (arith, long1 (c .before)))
+copy-in-requires : tie.Need-copy-in-requires
+copy-in-requires c κs = simp length-set (omega (arith, long1 (c .before)))
 
 add-clear : tie.Need-add-clear
 add-clear c = search needs
@@ -58,6 +63,12 @@ cast-slot-2 c = search needs
 
 slice-write-slot-3 : tie.Need-slice-write-slot-3
 slice-write-slot-3 c = omega (arith, long3 (c))
+
+cast-slot-3 : tie.Need-cast-slot-3
+cast-slot-3 c = search needs
+
+slice-write-slot-4 : tie.Need-slice-write-slot-4
+slice-write-slot-4 c = simp length-set (omega (arith, long3 (c)))
 
 clear-requires-2 : tie.Need-clear-requires-2
 clear-requires-2 c κs = simp length-set (omega (arith, long3 (c .before)))
@@ -87,16 +98,15 @@ returns : tie.Need-returns
 unfolding slot
 returns c =
     let a = c .before .before .before .before .before .before .before .before .before .before .before .before .before .before .before .before .before .before .before .before .before .before .before .before .before .before .before .args in
-    let w = map folded (a .word .now) in
+    let w = a .word .now in
     let ps = phonesOf (a .phones .now) in
-    let lw = length-map (a .word .now) folded in
     let lp = length-phonesOf (a .phones .now) in
     let lc = length-cellsOf ps (λ i h. phone-fits (a .phones .now) i (omega arith)) in
-    slot-written (a .slot .now) (c .before .before .before .before .before .before .before .before .before .before .before .before .before .before .before .before .before .before .before .before .before .before .put-u16 .last .0) (c .before .before .before .before .before .before .before .before .before .before .before .before .before .before .before .before .before .before .put-folded .last .0) (c .before .before .before .before .before .before .before .before .before .before .before .before .before .before .clear .last .0) (c .before .before .before .before .before .before .before .before .before .before .clear2 .last .0) (c .before .before .before .before .before .before .put-phones .last .0) (c .before .before .clear3 .last .0)
-    w (cellsOf ps) (a .tag) (length w) (length ps)
+    slot-written (a .slot .now) (c .before .before .before .before .before .before .before .before .before .before .before .before .before .before .before .before .before .before .before .before .before .before .put-u16 .last .0) (c .before .before .before .before .before .before .before .before .before .before .before .before .before .before .before .before .before .before .copy-in .last .0) (c .before .before .before .before .before .before .before .before .before .before .before .before .before .before .clear .last .0) (c .before .before .before .before .before .before .before .before .before .before .clear2 .last .0) (c .before .before .before .before .before .before .put-phones .last .0) (c .before .before .clear3 .last .0)
+    w (cellsOf ps) (a .tag) (length w) (length ps) (bit (a .exact))
     (c .before .before .before .before .before .before .before .before .before .before .before .before .before .before .before .before .before .before .before .before .before .before .before .before .before .before .before .pre .0) (long1 (c .before .before .before .before .before .before .before .before .before .before .before .before .before .before .before .before .before .before .before .before)) (long2 (c .before .before .before .before .before .before .before .before .before .before .before .before .before .before .before .before)) (long3 (c .before .before .before .before .before .before .before .before .before .before .before .before)) (long4 (c .before .before .before .before .before .before .before .before)) (long5 (c .before .before .before .before)) (long6 (c))
     refl (omega arith) lc (omega arith)
-    (c .before .before .before .before .before .before .before .before .before .before .before .before .before .before .before .before .before .before .before .before .before .before .put-u16 .ensures) (rw lw (c .before .before .before .before .before .before .before .before .before .before .before .before .before .before .before .before .before .before .put-folded .ensures)) (rw lw (c .before .before .before .before .before .before .before .before .before .before .before .before .before .before .clear .ensures)) (rw lp (c .before .before .before .before .before .before .before .before .before .before .clear2 .ensures)) (rw lp (c .before .before .before .before .before .before .put-phones .ensures)) (rw lp (c .before .before .clear3 .ensures))
+    (c .before .before .before .before .before .before .before .before .before .before .before .before .before .before .before .before .before .before .before .before .before .before .put-u16 .ensures) (c .before .before .before .before .before .before .before .before .before .before .before .before .before .before .before .before .before .before .copy-in .ensures) (c .before .before .before .before .before .before .before .before .before .before .before .before .before .before .clear .ensures) (rw (lp, ← as-bit (a .exact)) (c .before .before .before .before .before .before .before .before .before .before .clear2 .ensures)) (rw lp (c .before .before .before .before .before .before .put-phones .ensures)) (rw lp (c .before .before .clear3 .ensures))
 
 pub write-spec : {M : Type 1} → statement M
 write-spec =
@@ -106,12 +116,14 @@ write-spec =
     slice-write-slot
     cast-slot
     slice-write-slot-2
-    put-folded-requires
+    copy-in-requires
     add-clear
     sub-clear
     clear-requires
     cast-slot-2
     slice-write-slot-3
+    cast-slot-3
+    slice-write-slot-4
     clear-requires-2
     put-phones-requires
     mul-clear

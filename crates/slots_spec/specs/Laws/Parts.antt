@@ -4,13 +4,13 @@ use Prim.Native.Nat.{ℕ, zero, suc, _+_, _-_, _*_, _%_, _/_, _≤_, _<_}
 use native.Mathlib.Numerals.{one-add}
 use native.Mathlib.Omega.{arith}
 use mathlib.Core.Path.{_≡_, refl, sym, ap, _∙_}
-use mathlib.Core.Bool.{Bool, true, false, _&&_, and-assoc, and-true, and-false}
+use mathlib.Core.Bool.{Bool, true, false, _&&_, _||_, and-assoc, and-true, and-false}
 use mathlib.Core.List.{List, [], _∷_, _++_, map}
-use lib.Dec.{leb}
+use lib.Dec.{eqb, leb}
 use lib.ListN.{length, getD, take, drop, replicate, length-append, length-replicate, length-take, length-drop, take-append-drop}
 use lib.Seq.{take-all, take-take, take-add, take-suc, drop-at, length-take-le}
-use borrow.Author.Tests.{eq-eqb, ne-eqb, lt-ltb, leb-true, leb-false, le-leb, lt-leb}
-use Rattle.texts.specs.Choice.{both-true, cases}
+use borrow.Author.Tests.{eqb-true, eqb-false, eq-eqb, ne-eqb, lt-ltb, leb-true, leb-false, le-leb, lt-leb}
+use Rattle.texts.specs.Choice.{bit, both-true, cases}
 use Rattle.texts.specs.Lists.{every, every-append}
 use Rattle.texts.specs.Text.{is, low, ascii, isWord, same, same-refl, eq-same, word-short}
 use Rattle.texts.specs.Laws.Same.{same-append, same-zeros, zeros-low}
@@ -19,13 +19,19 @@ use Rattle.records.specs.Records.{firstRecords, records}
 use Rattle.cells.specs.Cells.{text, phonesOf, cell, cellsOf, asciiPhones, length-phonesOf, length-cellsOf, length-cell, phone-fits}
 use Rattle.slots_spec.specs.Slot.{entryOf, isFolded, fits, slot, isSlot, count-fits, phones-fit}
 
+-- the word is folded, unless the entry is exact
+unfoldable pub isStored : List ℕ → Bool
+isStored r = eqb (getD r 52 0) 1 || isFolded (take (getD r 3 0) (drop 4 r))
+
 -- tag, word and phone count are those of an entry that fits
 unfoldable pub isKey : List ℕ → Bool
-isKey r = low (getD r 2 0) && isWord (take (getD r 3 0) (drop 4 r)) && isFolded (take (getD r 3 0) (drop 4 r)) && leb (getD r 51 0) 24
+isKey r = low (getD r 2 0) && isWord (take (getD r 3 0) (drop 4 r)) && isStored r && leb (getD r 51 0) 24
 
--- the bytes past the word, 52 to 63, and those past the phones are zero
+-- the bytes past the word, 53 to 63, and those past the phones are zero, and byte 52 is 0 or 1
 unfoldable pub isBlank : List ℕ → Bool
-isBlank r = every (is 0) (drop (4 + getD r 3 0) (take 51 r)) && every (is 0) (drop 52 (take 64 r)) && every (is 0) (drop (64 + 16 * getD r 51 0) r)
+isBlank r =
+    every (is 0) (drop (4 + getD r 3 0) (take 51 r)) && leb (getD r 52 0) 1 && every (is 0) (drop 53 (take 64 r))
+    && every (is 0) (drop (64 + 16 * getD r 51 0) r)
 
 -- the cells that are used
 unfoldable pub usedCells : List ℕ → List ℕ
@@ -130,14 +136,25 @@ first-four (a ∷ b ∷ []) h = absurd (omega arith)
 first-four (a ∷ b ∷ c ∷ []) h = absurd (omega arith)
 first-four (a ∷ b ∷ c ∷ d ∷ r) h = refl
 
+-- a byte that is 0 or 1
+flag-byte : (x : ℕ) → same (x ∷ []) (bit (eqb x 1) ∷ []) ≡ leb x 1
+unfolding same
+flag-byte x =
+    cases (eqb x 1)
+    (λ e. let h = eqb-true x 1 e in rw (e, le-leb x 1 (omega arith)) (rw (eq-eqb x 1 h)))
+    (λ e. let n = eqb-false x 1 e in
+    cases (eqb x 0)
+    (λ z. let h = eqb-true x 0 z in rw (e, z, le-leb x 1 (omega arith)))
+    (λ z. let m = eqb-false x 0 z in rw (e, z, lt-leb x 1 (omega arith))))
+
 -- what a key that fits says of the lengths
 key-parts : (r : List ℕ) → length r ≡ 512 → isKey r ≡ true → (getD r 3 0 ≤ 47) × (getD r 51 0 ≤ 24)
 unfolding isKey
 key-parts r l h =
     let n = getD r 3 0 in
     let w = take n (drop 4 r) in
-    let a = both-true (low (getD r 2 0) && isWord w && isFolded w) (leb (getD r 51 0) 24) h in
-    let b = both-true (low (getD r 2 0) && isWord w) (isFolded w) (a .0) in
+    let a = both-true (low (getD r 2 0) && isWord w && isStored r) (leb (getD r 51 0) 24) h in
+    let b = both-true (low (getD r 2 0) && isWord w) (isStored r) (a .0) in
     let d = both-true (low (getD r 2 0)) (isWord w) (b .0) in
     let s = word-short w (d .1) in
     let t = length-take n (drop 4 r) in
@@ -200,8 +217,15 @@ module _ (r : List ℕ) (l : length r ≡ 512) (byte : getD r 0 0 < 256) (hn : g
   long-count : length (key ++ pad ++ (length (phonesOf cs) ∷ [])) ≡ 52
   long-count = length-append (key ++ pad) (length (phonesOf cs) ∷ []) ∙ ap (λ (k : ℕ). k + 1) long-front
 
-  long-spare : length (key ++ pad ++ (length (phonesOf cs) ∷ []) ++ replicate 12 0) ≡ 64
-  long-spare = length-append (key ++ pad ++ (length (phonesOf cs) ∷ [])) (replicate 12 0) ∙ ap (λ (k : ℕ). k + 12) long-count
+  flag : List ℕ
+  flag = bit (eqb (getD r 52 0) 1) ∷ []
+
+  long-flag : length (key ++ pad ++ (length (phonesOf cs) ∷ []) ++ flag) ≡ 53
+  unfolding flag
+  long-flag = length-append (key ++ pad ++ (length (phonesOf cs) ∷ [])) (bit (eqb (getD r 52 0) 1) ∷ []) ∙ ap (λ (k : ℕ). k + 1) long-count
+
+  long-spare : length (key ++ pad ++ (length (phonesOf cs) ∷ []) ++ flag ++ replicate 11 0) ≡ 64
+  long-spare = length-append (key ++ pad ++ (length (phonesOf cs) ∷ []) ++ flag) (replicate 11 0) ∙ ap (λ (k : ℕ). k + 11) long-flag
 
   past-count : same (take 52 r) (key ++ pad ++ (length (phonesOf cs) ∷ [])) ≡ every (is 0) (drop (4 + n) (take 51 r))
   unfolding m same
@@ -212,31 +236,42 @@ module _ (r : List ℕ) (l : length r ≡ 512) (byte : getD r 0 0 < 256) (hn : g
       ∙ same-append (take 51 r) (getD r 51 0 ∷ []) (key ++ pad) (length (phonesOf cs) ∷ []) (t ∙ sym long-front)
       ∙ rw (long-phones, eq-eqb (getD r 51 0) (getD r 51 0) refl, to-count) (and-true (every (is 0) (drop (4 + n) (take 51 r))))
 
-  to-cells : same (take 64 r) (key ++ pad ++ (length (phonesOf cs) ∷ []) ++ replicate 12 0) ≡ (every (is 0) (drop (4 + n) (take 51 r)) && every (is 0) (drop 52 (take 64 r)))
-  to-cells =
-      let z : length (drop 52 (take 64 r)) ≡ 12 = length-drop 52 (take 64 r) ∙ omega (arith, length-take-le 64 r (omega arith)) in
-      same-more r (key ++ pad ++ (length (phonesOf cs) ∷ [])) (replicate 12 0) 52 64 (omega arith) (omega arith) long-count
-      ∙ rw (past-count, same-zeros (drop 52 (take 64 r)) 12 z)
+  past-flag : same (take 53 r) (key ++ pad ++ (length (phonesOf cs) ∷ []) ++ flag) ≡ (every (is 0) (drop (4 + n) (take 51 r)) && leb (getD r 52 0) 1)
+  unfolding flag
+  past-flag =
+      let e : take 53 r ≡ take 52 r ++ (getD r 52 0 ∷ []) = take-suc r 52 0 (omega arith) in
+      let t = length-take-le 52 r (omega arith) in
+      ap (λ (x : List ℕ). same x (key ++ pad ++ (length (phonesOf cs) ∷ []) ++ (bit (eqb (getD r 52 0) 1) ∷ []))) e
+      ∙ same-append (take 52 r) (getD r 52 0 ∷ []) (key ++ pad ++ (length (phonesOf cs) ∷ [])) (bit (eqb (getD r 52 0) 1) ∷ []) (t ∙ sym long-count)
+      ∙ rw (past-count, flag-byte (getD r 52 0))
 
-  to-end : same (take (64 + 16 * m) r) (key ++ pad ++ (length (phonesOf cs) ∷ []) ++ replicate 12 0 ++ cellsOf (phonesOf cs))
-      ≡ (every (is 0) (drop (4 + n) (take 51 r)) && every (is 0) (drop 52 (take 64 r)) && same cs (cellsOf (phonesOf cs)))
+  to-cells : same (take 64 r) (key ++ pad ++ (length (phonesOf cs) ∷ []) ++ flag ++ replicate 11 0)
+      ≡ (every (is 0) (drop (4 + n) (take 51 r)) && leb (getD r 52 0) 1 && every (is 0) (drop 53 (take 64 r)))
+  to-cells =
+      let z : length (drop 53 (take 64 r)) ≡ 11 = length-drop 53 (take 64 r) ∙ omega (arith, length-take-le 64 r (omega arith)) in
+      same-more r (key ++ pad ++ (length (phonesOf cs) ∷ []) ++ flag) (replicate 11 0) 53 64 (omega arith) (omega arith) long-flag
+      ∙ rw (past-flag, same-zeros (drop 53 (take 64 r)) 11 z)
+
+  to-end : same (take (64 + 16 * m) r) (key ++ pad ++ (length (phonesOf cs) ∷ []) ++ flag ++ replicate 11 0 ++ cellsOf (phonesOf cs))
+      ≡ (every (is 0) (drop (4 + n) (take 51 r)) && leb (getD r 52 0) 1 && every (is 0) (drop 53 (take 64 r)) && same cs (cellsOf (phonesOf cs)))
   unfolding m cs
   to-end =
       let d : drop 64 (take (64 + 16 * m) r) ≡ cs = ap (λ (x : List ℕ). drop 64 x) (take-add 64 (16 * m) r) ∙ drop-at (take 64 r) cs 64 (length-take-le 64 r (omega arith)) in
-      same-more r (key ++ pad ++ (length (phonesOf cs) ∷ []) ++ replicate 12 0) (cellsOf (phonesOf cs)) 64 (64 + 16 * m) (omega arith) (omega arith) long-spare
+      same-more r (key ++ pad ++ (length (phonesOf cs) ∷ []) ++ flag ++ replicate 11 0) (cellsOf (phonesOf cs)) 64 (64 + 16 * m) (omega arith) (omega arith) long-spare
       ∙ rw (to-cells, d)
 
-  long-used : length (key ++ pad ++ (length (phonesOf cs) ∷ []) ++ replicate 12 0 ++ cellsOf (phonesOf cs)) ≡ 64 + 16 * m
+  long-used : length (key ++ pad ++ (length (phonesOf cs) ∷ []) ++ flag ++ replicate 11 0 ++ cellsOf (phonesOf cs)) ≡ 64 + 16 * m
   long-used =
       let c = length-cellsOf (phonesOf cs) (λ i h. phone-fits cs i (omega (arith, length-phonesOf cs))) in
       let a = long-phones in
-      length-append (key ++ pad ++ (length (phonesOf cs) ∷ []) ++ replicate 12 0) (cellsOf (phonesOf cs)) ∙ rw (long-spare, c, a)
+      length-append (key ++ pad ++ (length (phonesOf cs) ∷ []) ++ flag ++ replicate 11 0) (cellsOf (phonesOf cs)) ∙ rw (long-spare, c, a)
 
   whole : same r (slot (u16At r 0) (entryOf r))
-      ≡ (every (is 0) (drop (4 + n) (take 51 r)) && every (is 0) (drop 52 (take 64 r)) && same cs (cellsOf (phonesOf cs)) && every (is 0) (drop (64 + 16 * m) r))
-  unfolding slot entryOf key pad w n m cs
+      ≡ (every (is 0) (drop (4 + n) (take 51 r)) && leb (getD r 52 0) 1 && every (is 0) (drop 53 (take 64 r))
+      && same cs (cellsOf (phonesOf cs)) && every (is 0) (drop (64 + 16 * m) r))
+  unfolding slot entryOf key pad flag w n m cs
   whole =
-      let p = key ++ pad ++ (length (phonesOf cs) ∷ []) ++ replicate 12 0 ++ cellsOf (phonesOf cs) in
+      let p = key ++ pad ++ (length (phonesOf cs) ∷ []) ++ flag ++ replicate 11 0 ++ cellsOf (phonesOf cs) in
       let q : List ℕ = replicate (448 - 16 * length (phonesOf cs)) 0 in
       let t : take 512 r ≡ r = take-all 512 r (omega arith) in
       let z : length (drop (64 + 16 * m) r) ≡ 448 - 16 * length (phonesOf cs) = length-drop (64 + 16 * m) r ∙ omega (arith, long-phones) in
@@ -246,7 +281,7 @@ module _ (r : List ℕ) (l : length r ≡ 512) (byte : getD r 0 0 < 256) (hn : g
 
 -- an entry fits if its key does and its phones are below 128
 fits-key : (r : List ℕ) → length r ≡ 512 → fits (entryOf r) ≡ (isKey r && asciiPhones (usedCells r))
-unfolding fits isKey entryOf usedCells
+unfolding fits isKey isStored entryOf usedCells
 fits-key r l =
     let c = count-fits r l in
     let p = phones-fit (usedCells r) in
@@ -257,7 +292,7 @@ key-whole : (r : List ℕ) → length r ≡ 512 → getD r 0 0 < 256 → getD r 
 unfolding isBlank usedCells n m cs
 key-whole r l byte hn hc =
     let used = take (16 * getD r 51 0) (drop 64 r) in
-    let x = every (is 0) (drop (4 + getD r 3 0) (take 51 r)) && every (is 0) (drop 52 (take 64 r)) in
+    let x = every (is 0) (drop (4 + getD r 3 0) (take 51 r)) && leb (getD r 52 0) 1 && every (is 0) (drop 53 (take 64 r)) in
     let y = every (is 0) (drop (64 + 16 * getD r 51 0) r) in
     let c : length used ≡ 16 * getD r 51 0 = length-take-le (16 * getD r 51 0) (drop 64 r) (rw length-drop (omega arith)) in
     ap (λ (b : Bool). asciiPhones used && b) (whole r l byte hn hc)

@@ -36,7 +36,7 @@ entry-put r v =
     λ k h. getD-set-other s 1 k (v / 256) 0 (λ e. absurd (omega arith)) ∙ getD-set-other r 0 k (v % 256) 0 (λ e. absurd (omega arith)) in
     let d : (k : ℕ) → 1 < k → drop k (set s 1 (v / 256)) ≡ drop k r =
     λ k h. drop-set-lt k s 1 (v / 256) h ∙ drop-set-lt k r 0 (v % 256) (omega arith) in
-    rw (g 2 (omega arith), g 3 (omega arith), g 51 (omega arith), d 4 (omega arith), d 64 (omega arith))
+    rw (g 2 (omega arith), g 3 (omega arith), g 51 (omega arith), g 52 (omega arith), d 4 (omega arith), d 64 (omega arith))
 
 -- a field of slot 0 put into its first six bytes
 head-zeros : (b : List ℕ) (o v : ℕ) → o ≤ 4 → drop 6 (recordAt 512 (put16 b o v) 0) ≡ drop 6 (recordAt 512 b 0)

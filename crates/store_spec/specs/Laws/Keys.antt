@@ -1,7 +1,7 @@
 -- The adding rule on lists of entries: keys that differ still differ, and what goes is the one entry of that key.
 -- Assumes nothing.
 use mathlib.Core.Path.{_≡_, refl, sym, _∙_}
-use mathlib.Core.Bool.{Bool, true, false, not, _||_}
+use mathlib.Core.Bool.{Bool, true, false, not, _&&_, _||_, Bool·beq}
 use mathlib.Core.List.{List, [], _∷_, _++_}
 use lib.Dec.{eqb}
 use borrow.Author.Tests.{eqb-true, eq-eqb, not-true}
@@ -16,28 +16,40 @@ pub either-false : (a b : Bool) → (a || b) ≡ false → (a ≡ false) × (b �
 either-false true b h = never true refl h
 either-false false b h = (refl, h)
 
--- entries of one key have one word and one tag
-pub key-true : (a b : Entry) → sameKey a b ≡ true → (b .word ≡ a .word) × (b .tag ≡ a .tag)
+-- two answers that are equal
+pub beq-true : (a b : Bool) → Bool·beq a b ≡ true → a ≡ b
+beq-true true true h = refl
+beq-true true false h = never true refl (sym h)
+beq-true false true h = h
+beq-true false false h = refl
+
+beq-refl : (a : Bool) → Bool·beq a a ≡ true
+beq-refl true = refl
+beq-refl false = refl
+
+-- entries of one key have one word and one tag, and are both exact or both not
+pub key-true : (a b : Entry) → sameKey a b ≡ true → (b .word ≡ a .word) × (b .tag ≡ a .tag) × (b .exact ≡ a .exact)
 unfolding sameKey isWanted agree
 key-true a b h =
-    let s = both-true (same (b .word) (a .word)) (agree false (b .tag) (a .tag)) h in
-    (same-true (b .word) (a .word) (s .0), go (eqb (b .tag) (a .tag)) refl (s .1))
+    let s = both-true (Bool·beq (b .exact) (a .exact) && same (b .word) (a .word)) (agree false (b .tag) (a .tag)) h in
+    let x = both-true (Bool·beq (b .exact) (a .exact)) (same (b .word) (a .word)) (s .0) in
+    (same-true (b .word) (a .word) (x .1), go (eqb (b .tag) (a .tag)) refl (s .1), beq-true (b .exact) (a .exact) (x .0))
   where
     go : (t : Bool) → eqb (b .tag) (a .tag) ≡ t → agree false (b .tag) (a .tag) ≡ true → b .tag ≡ a .tag
     go true e h = eqb-true (b .tag) (a .tag) e
     go false e h = let z : false ≡ true = rw e at h in never false z refl
 
-pub key-from : (a b : Entry) → b .word ≡ a .word → b .tag ≡ a .tag → sameKey a b ≡ true
+pub key-from : (a b : Entry) → b .word ≡ a .word → b .tag ≡ a .tag → b .exact ≡ a .exact → sameKey a b ≡ true
 unfolding sameKey isWanted agree
-key-from a b w t = rw (w, t, same-refl (a .word), eq-eqb (a .tag) (a .tag) refl)
+key-from a b w t x = rw (w, t, x, beq-refl (a .exact), same-refl (a .word), eq-eqb (a .tag) (a .tag) refl)
 
 pub key-flip : (a b : Entry) → sameKey a b ≡ false → sameKey b a ≡ false
-key-flip a b h = is-false (sameKey b a) (λ e. let k = key-true b a e in never (sameKey a b) (key-from a b (sym (k .0)) (sym (k .1))) h)
+key-flip a b h = is-false (sameKey b a) (λ e. let k = key-true b a e in never (sameKey a b) (key-from a b (sym (k .0)) (sym (k .1)) (sym (k .2))) h)
 
 -- two entries of a key have that key alike
 pub key-both : (a b c : Entry) → sameKey a b ≡ true → sameKey a c ≡ sameKey b c
 unfolding sameKey
-key-both a b c h = let k = key-true a b h in rw (k .0, k .1)
+key-both a b c h = let k = key-true a b h in rw (k .0, k .1, k .2)
 
 -- tests over two lists in a row
 pub some-append : (f : Entry → Bool) (xs ys : List Entry) → some f (xs ++ ys) ≡ (some f xs || some f ys)
@@ -78,22 +90,19 @@ without-none e (x ∷ xs) h =
     let ih = without-none e xs (s .1) in
     rw (s .0, ih)
 
+-- where no entry has the key of one, none has that of another with the same key
+pub none-same : (e s : Entry) (zs : List Entry) → sameKey e s ≡ true → some (sameKey s) zs ≡ false → some (sameKey e) zs ≡ false
+unfolding some
+none-same e s [] k h = refl
+none-same e s (z ∷ zs) k h = let t = either-false (sameKey s z) (some (sameKey s) zs) h in rw (key-both e s z k, t .0) (none-same e s zs k (t .1))
+
 -- one entry of that key: it goes
 pub without-one : (e s : Entry) (xs ys : List Entry) → some (sameKey e) xs ≡ false → sameKey e s ≡ true → keysDiffer (xs ++ s ∷ ys) ≡ true
     → without e (xs ++ s ∷ ys) ≡ xs ++ ys
 unfolding without some keysDiffer
 without-one e s [] ys h k d =
     let t = both-true (not (some (sameKey s) ys)) (keysDiffer ys) d in
-    rw k (without-none e ys (rest (not-true (some (sameKey s) ys) (t .0))))
-  where
-    rest : some (sameKey s) ys ≡ false → some (sameKey e) ys ≡ false
-    rest h = alike ys h
-      where
-        alike : (zs : List Entry) → some (sameKey s) zs ≡ false → some (sameKey e) zs ≡ false
-        alike [] h = refl
-        alike (z ∷ zs) h =
-            let t = either-false (sameKey s z) (some (sameKey s) zs) h in
-            rw (key-both e s z k, t .0) (alike zs (t .1))
+    rw k (without-none e ys (none-same e s ys k (not-true (some (sameKey s) ys) (t .0))))
 without-one e s (x ∷ xs) ys h k d =
     let a = either-false (sameKey e x) (some (sameKey e) xs) h in
     let t = both-true (not (some (sameKey x) (xs ++ s ∷ ys))) (keysDiffer (xs ++ s ∷ ys)) d in

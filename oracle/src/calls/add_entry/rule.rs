@@ -7,7 +7,7 @@ use crate::prelude::*;
 /// The refusal that the papers give, if they give one. Tells what made it.
 pub fn refusal(input: &Input, met: &mut Met) -> Result<(), u32> {
     let Input { scene, given } = input;
-    let Add { wanted, phones: List { cells, .. } } = given;
+    let Add { wanted, phones: List { cells, .. }, .. } = given;
     met.refuse(1, scene.lexicon.names.is_none(), || None)?;
     let spent = stores::is_spent(&scene.store);
     let high = wanted.is_refused() || cells.iter().any(is_high);
@@ -17,20 +17,37 @@ pub fn refusal(input: &Input, met: &mut Met) -> Result<(), u32> {
     let unknown = |cell: &Cell| is_over(cell) || !scene.lexicon.knows(text(cell));
     let first = cells.iter().position(unknown);
     met.refuse(5, first.is_some(), || by_5(cells, first >= Some(MOST_PHONES)))?;
-    let known = scene.keys();
+    let (known, key) = (scene.keys(), given.key());
     let is_full = known.len() == stores::room(&scene.store);
-    let lacks_room = is_full && !known.contains(&key(&wanted.word, &wanted.tag));
+    let lacks_room = is_full && !known.contains(&key);
     let count = cells.len();
     met.refuse(7, count > MOST_PHONES, || by_7(count, lacks_room))?;
-    met.refuse(8, lacks_room, || by_8(known.len()))
+    met.refuse(8, lacks_room, || by_8(&known, &key))
 }
 
-/// What the original answers to an add, and its list after it; the same for each way to hand it the tag.
+/// Whether one of some keys has the word in other capitals, and is else the same.
+fn in_other_capitals(known: &[Key], key: &Key) -> bool {
+    let other = |one: &Key| {
+        let agree = (one.tag, one.exact) == (key.tag, key.exact);
+        agree && one.word != key.word && one.word.eq_ignore_ascii_case(&key.word)
+    };
+    known.iter().any(other)
+}
+
+/// Whether two keys differ in the tag alone.
+fn is_retagged(one: &Key, key: &Key) -> bool {
+    one.tag != key.tag && (&one.word, one.exact) == (&key.word, key.exact)
+}
+
+/// What the original answers to an add, and its list of the peers after it; the same for each way to hand it the tag.
 fn asked(input: &Input) -> Result<(Result<(), LexiconError>, Vec<Entry>), String> {
-    let Add { wanted, phones } = &input.given;
+    let Add { wanted, phones, .. } = &input.given;
     let phones: Vec<&str> = phones.texts().into_iter().map(ascii).collect();
     let (scene, word) = (&input.scene, ascii(&wanted.word));
-    let add = |pos| ask(|| scene.changed(|lexicon| lexicon.add_entry(word, pos, &phones)));
+    let key = input.given.key();
+    let add = |pos| {
+        ask(|| scene.changed(Peers::of(&key), |lexicon| lexicon.add_entry(word, pos, &phones)))
+    };
     let mut told = ways(&wanted.tag).into_iter().map(add).collect::<Result<Vec<_>, _>>()?;
     told.dedup();
     let one = told.pop().filter(|_| told.is_empty());
@@ -46,17 +63,17 @@ pub fn added(input: &Input, met: &mut Met) -> Result<Vec<u8>, Stop> {
         refused?;
     }
     let (told, list) = asked(input)?;
-    let before = scene.entries().iter().map(|placed| &placed.entry);
+    let key = given.key();
+    let peers = Peers::of(&key);
     match (refused, told) {
         (Ok(()), Ok(())) => {}
-        (Err(5), Err(LexiconError::UnknownPhone { .. })) if list.iter().eq(before) => {
+        (Err(5), Err(LexiconError::UnknownPhone { .. })) if scene.peers(peers).eq(&list) => {
             return Err(Stop::RefusedBeside(5, 0));
         }
         (_, told) => Err(format!("the original says {told:?}, or alters its list"))?,
     }
-    let key = key(&given.wanted.word, &given.wanted.tag);
     let slot = scene.slot_for(&key);
-    let store = scene.store_of(&[key], &list)?;
+    let store = scene.store_of(peers, std::slice::from_ref(&key), &list)?;
     let stray = stores::stray(&scene.store, &store, slot);
     assert!(stray.is_none(), "the driver writes a byte that the add has no part in");
     Ok(store)
@@ -76,7 +93,7 @@ rows! { pub ROWS:
 
     /// What a word, a tag or a phone has that is refused by 3.
     by_3(given: &Add) {
-        let Add { wanted, phones: List { cells, .. } } = given;
+        let Add { wanted, phones: List { cells, .. }, .. } = given;
         let (front, behind) = cells.split_at(cells.len().min(MOST_PHONES));
     } [
         "3: long word" => wanted.word.len() > words::LONGEST,
@@ -104,23 +121,29 @@ rows! { pub ROWS:
         "7: store without an unused slot" => lacks_room,
     ]
 
-    /// What a full store has.
-    by_8(entries: usize) [
-        "8: store of one slot" => entries == 0,
-        "8: 127 entries" => entries == 127,
+    /// What a full store has that lacks a key.
+    by_8(known: &[Key], key: &Key) {
+        let has_twin = known.contains(&key.twin());
+    } [
+        "8: store of one slot" => known.is_empty(),
+        "8: 127 entries" => known.len() == 127,
+        "8: an exact entry, whose ordinary twin is there" => key.exact && has_twin,
+        "8: an ordinary entry, whose exact twin is there" => !key.exact && has_twin,
+        "8: an exact entry, there in other capitals" => key.exact && in_other_capitals(known, key),
     ]
 
     /// What an add of a new key met.
-    of_new(scene: &Scene, word: &[u8]) {
+    of_new(scene: &Scene, key: &Key) {
         let before = scene.entries();
         let entries = before.len() + 1;
         let slot = &scene.store[SLOT * entries..][..SLOT];
+        let retagged = scene.keys().iter().any(|known| is_retagged(known, key));
     } [
         "new: the first entry" => before.is_empty(),
         "new: takes the last unused slot" => entries == stores::room(&scene.store),
         "new: entry 127" => entries == 127,
         "new: written over anything" => !zeros(slot),
-        "new: word known with another tag" => before.iter().any(|p| p.entry.word == word),
+        "new: word known with another tag" => retagged,
     ]
 
     /// What an add met whose key was known at this place of the list.
@@ -137,6 +160,26 @@ rows! { pub ROWS:
         "known: more phones than before" => count > was,
         "known: nothing but the count changes" => store == &scene.store[..],
         "known: no unused slot" => before.len() == stores::room(&scene.store),
+    ]
+
+    /// What an accepted add met that is exact, or came to a store with exact entries.
+    of_kind(scene: &Scene, given: &Add) {
+        let (keys, key) = (scene.keys(), given.key());
+        let (exact, is_known) = (given.exact, keys.contains(&key));
+        let has_twin = keys.contains(&key.twin());
+        // the entry that the same word and tag would have, were it exact
+        let own = Key::new(&given.wanted.word, &given.wanted.tag, true);
+        let is_folded = stores::is_folded(&own.word);
+        let of_capitals = !exact && !is_folded && keys.contains(&own);
+    } [
+        "exact: word with capitals" => exact && !is_folded,
+        "exact: word without capitals" => exact && is_folded,
+        "exact: new, its ordinary twin stays" => exact && !is_known && has_twin,
+        "exact: known, its ordinary twin stays" => exact && is_known && has_twin,
+        "exact: known in other capitals" => exact && in_other_capitals(&keys, &key),
+        "ordinary: new, its exact twin stays" => !exact && !is_known && has_twin,
+        "ordinary: known, its exact twin stays" => !exact && is_known && has_twin,
+        "ordinary: an exact one of the word's capitals stays" => of_capitals,
     ]
 
     /// What the phones of an accepted add have.

@@ -5,7 +5,8 @@ use crate::calls::adding::table;
 use crate::prelude::*;
 
 pub fn inputs(phones: &Phones) -> Vec<Input> {
-    [edges(), small_stores(), single_phones(phones), altered_bytes()].concat()
+    let stores = [small_stores(), exact_stores(), exact_edges()].concat();
+    [edges(), stores, single_phones(phones), altered_bytes()].concat()
 }
 
 pub fn input(
@@ -15,7 +16,13 @@ pub fn input(
     phones: &[impl AsRef<[u8]>],
 ) -> Input {
     let wanted = Wanted::new(word.as_ref(), tag.as_ref());
-    Input::new(scene.clone(), Add { wanted, phones: List::of(phones) })
+    Input::new(scene.clone(), Add { wanted, phones: List::of(phones), exact: false })
+}
+
+/// An add, and the same exact one.
+fn both(input: Input) -> [Input; 2] {
+    let exact = Add { exact: true, ..input.given.clone() };
+    [Input::new(input.scene.clone(), exact), input]
 }
 
 /// Every add over two words and some tags, on every store that up to three adds leave, with room and
@@ -29,6 +36,33 @@ fn small_stores() -> Vec<Input> {
         let scene = Rc::new(Scene::new(&lexicon, store[..len].to_vec()));
         for word in ["a", "A", "b", "c"];
         ["", "n", "v", "nil", "0"].map(|tag| input(&scene, word, tag, &["zz"]))
+    }
+}
+
+/// The same over one letter, exact and ordinary, on every store that up to three such adds leave.
+fn exact_stores() -> Vec<Input> {
+    let lexicon = Rc::new(Lexicon::of(&["k", "zz"], &[]));
+    each! {
+        for store in store_edges::small_exact(3);
+        for len in [store.len(), stores::unused(&store)];
+        let scene = Rc::new(Scene::new(&lexicon, store[..len].to_vec()));
+        for word in ["a", "A"];
+        for tag in ["", "n", "nil"];
+        both(input(&scene, word, tag, &["zz"]))
+    }
+}
+
+/// Words and tags at 01's limits, exact, on stores at the papers' limits; and what goes before 8.
+fn exact_edges() -> Vec<Input> {
+    let good = Scene::of(Lexicon::of(&["", "q"], &[]), store_edges::good());
+    each! {
+        for store in store_edges::limits();
+        let scene = good.with_store(store);
+        for Wanted { word, tag } in words::limits(&["Lead", "lead", "W0", "a"]);
+        let lists = [vec!["k"; 25], vec!["zz"], vec!["q", ""]];
+        let list = &lists[if word == b"W0" { tag.len() % 3 } else { 2 }];
+        let [exact, _] = both(input(&scene, word, tag, list));
+        [exact]
     }
 }
 
@@ -70,7 +104,9 @@ fn altered_bytes() -> Vec<Input> {
     let stores = each! {
         for (i, store) in store_edges::altered_bytes().into_iter().enumerate();
         let (word, tag) = [("Lead", "v"), ("b", ""), ("a", "n")][i % 3];
-        [input(&Rc::new(Scene::new(&lexicon, store)), word, tag, &["k", "ae"])]
+        let scene = Rc::new(Scene::new(&lexicon, store));
+        let [exact, ordinary] = both(input(&scene, word, tag, &["k", "ae"]));
+        [if i / 3 % 2 == 0 { ordinary } else { exact }]
     };
     let tables = each! {
         for lexicon in lexicon_edges::altered_bytes();

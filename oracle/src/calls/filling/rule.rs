@@ -54,15 +54,18 @@ fn taken(input: &Input, met: &mut Met) -> Taken {
                 None
             }
             Line::Entry(fields) => {
-                let key = key(fields.word, fields.tag);
+                let key = Key::new(fields.word, fields.tag, false);
                 let is_new = !known.contains(&key);
-                let full = (is_new && known.len() == room).then(|| of_full(before.len() == room));
+                let is_full = is_new && known.len() == room;
+                let full =
+                    is_full.then(|| of_full(before.len() == room, before.contains(&key.twin())));
                 let fault = faulty(&input.scene.lexicon, &fields, full);
                 if fault.is_none() {
                     let takes_last = is_new && known.len() + 1 == room;
                     met.once(of_line(line, true));
                     met.once(of_fields(line, &fields));
                     met.once(of_key(&key, &taken.keys, &before, takes_last));
+                    met.once(beside_exact(&before, &fields, is_new));
                     known.extend(is_new.then(|| key.clone()));
                     taken.replaced += usize::from(!is_new);
                     taken.keys.push(key);
@@ -137,14 +140,18 @@ pub fn filled(input: &Input, met: &mut Met) -> Result<Filled, String> {
     met.all(of_text(&input.text, &filled.taken));
     met.shared(of_numbers(&filled, &input.scene));
     met.shared(store_edges::features(&input.scene.store, input.scene.entries()));
+    met.shared(store_edges::of_exact(input.scene.entries()));
     Ok(filled)
 }
 
-/// The store after the lines that 01 takes, by the original's list, and how many slots are newly used. The original
+/// The store after the lines that 01 takes, by the original's list, and how many slots are newly used. A text makes
+/// ordinary entries alone (02, S-8), which are the original's; exact ones stay. The original
 /// must count as many lines, or stop at the same one, where it has that refusal.
 fn beside_the_original(input: &Input, taken: &Taken) -> Result<(Vec<u8>, usize), String> {
     let scene = &input.scene;
-    let asked = |text: &[u8]| ask(|| scene.changed(|lexicon| lexicon.add_entries(ascii(text))));
+    let asked = |text: &[u8]| {
+        ask(|| scene.changed(Peers::Ordinary, |lexicon| lexicon.add_entries(ascii(text))))
+    };
     let (told, list) = asked(&input.text[..taken.end])?;
     if told != Ok(taken.keys.len()) {
         return Err(format!("of the lines before a faulty one the original says {told:?}"));
@@ -156,16 +163,15 @@ fn beside_the_original(input: &Input, taken: &Taken) -> Result<(Vec<u8>, usize),
             Err(LexiconError::UnknownPhone { line, .. }) => Some((5, line)),
             Ok(_) => None,
         };
-        let before = scene.entries().iter().map(|placed| &placed.entry);
-        if stop != taken.fault || !kept.iter().eq(before) {
+        if stop != taken.fault || !scene.peers(Peers::Ordinary).eq(&kept) {
             return Err(format!("the original stops at {stop:?}, or alters its list"));
         }
     }
-    let newly = list.len() - scene.entries().len();
+    let newly = list.len() - scene.peers(Peers::Ordinary).count();
     if newly + taken.replaced != taken.keys.len() {
         return Err(format!("the original has {newly} entries more"));
     }
-    Ok((scene.store_of(&taken.keys, &list)?, newly))
+    Ok((scene.store_of(Peers::Ordinary, &taken.keys, &list)?, newly))
 }
 
 /// The answers of a text that is accepted.
@@ -226,9 +232,10 @@ rows! { pub ROWS:
     ]
 
     /// When a store became full.
-    of_full(before: bool) [
+    of_full(before: bool, has_twin: bool) [
         "8: full before the text" => before,
         "8: full by the lines before" => !before,
+        "8: and the entry's exact twin is there" => has_twin,
     ]
 
     /// What the key of a line met that is taken.
@@ -236,6 +243,17 @@ rows! { pub ROWS:
         "key of an earlier line" => taken.contains(key),
         "key of the store" => before.contains(key),
         "new: takes the last unused slot" => takes_last,
+    ]
+
+    /// What a line's entry met among exact ones, which stay.
+    beside_exact(before: &[Key], fields: &Fields, is_new: bool) {
+        let own = Key::new(fields.word, fields.tag, true);
+        let has_twin = before.contains(&Key::new(fields.word, fields.tag, false).twin());
+        let of_capitals = !stores::is_folded(fields.word) && before.contains(&own);
+    } [
+        "new: its exact twin stays" => is_new && has_twin,
+        "known: its exact twin stays" => !is_new && has_twin,
+        "an exact one of the word's capitals stays" => of_capitals,
     ]
 
     /// What a line has that is refused by 3.

@@ -1,20 +1,22 @@
 //! The book beside a list of calls: the papers and the original, which has its own entries, the text of the latest
-//! accepted first step, and the words of the sheet.
+//! accepted first step, and the words of the sheet. For the exact entries of each word it has an original more.
 
 use super::run::Side;
 use super::state::State;
 use super::{Act, Sections, CALLS};
 use crate::prelude::*;
-use crate::scene::entry;
 use crate::sheets::Reading;
 use crate::spoken::Word;
 use original::lexicon::probe;
+use std::collections::BTreeMap;
 use std::mem::take;
 
 pub struct Book<'a> {
     sections: &'a Sections,
-    /// The original with its entries; none if it cannot take any.
+    /// The original with its entries, the ordinary ones; none if it cannot take any.
     entries: Option<lexicon::Lexicon>,
+    /// The original with the exact entries of each word.
+    exact: BTreeMap<Vec<u8>, lexicon::Lexicon>,
     pending: Vec<u8>,
     /// The row of a second step that came now.
     accept: &'static str,
@@ -45,8 +47,9 @@ impl<'a> Book<'a> {
     pub fn new(sections: &'a Sections, met: &'a mut Met) -> Book<'a> {
         let table = &sections.table;
         let entries = table.names.as_ref().map(|_| table.original().clone());
-        let (pending, accept, sheet) = (vec![], "accept: right away", Sheet::default());
-        Book { sections, entries, pending, accept, sheet, met, stops: false, refused: false }
+        let (exact, pending, sheet) = (BTreeMap::new(), vec![], Sheet::default());
+        let accept = "accept: right away";
+        Book { sections, entries, exact, pending, accept, sheet, met, stops: false, refused: false }
     }
 
     /// A call that was not refused. The words before an add saw the old entries.
@@ -67,10 +70,16 @@ impl<'a> Book<'a> {
             _ => self.say()?,
         }
         let entries = self.entries.as_mut().ok_or("entries without a table")?;
+        let table = &self.sections.table;
         let told = ask(|| match act {
-            Act::AddEntry(Add { wanted, phones }) => {
+            Act::AddEntry(Add { wanted: Wanted { word, tag }, phones, exact }) => {
                 let phones: Vec<&str> = phones.texts().into_iter().map(ascii).collect();
-                entries.add_entry(ascii(&wanted.word), ways(&wanted.tag)[0], &phones)
+                let own = || table.original().clone();
+                let entries = match exact {
+                    true => self.exact.entry(word.clone()).or_insert_with(own),
+                    false => entries,
+                };
+                entries.add_entry(ascii(word), ways(tag)[0], &phones)
             }
             Act::AddText { text, .. } => entries.add_entries(ascii(text)).map(drop),
             Act::Accept => entries.add_entries(ascii(&self.pending)).map(drop),
@@ -105,21 +114,43 @@ impl<'a> Book<'a> {
         Ok(())
     }
 
-    /// Says the words that were not said yet, in one utterance.
+    /// Says the words that were not said yet, in one utterance; a word with exact entries ends it.
     fn say(&mut self) -> Result<(), String> {
         let pending = self.sheet.wanted.get(self.sheet.said.len()..).unwrap_or_default();
-        let (Some(entries), false) = (&self.entries, pending.is_empty()) else {
+        let Some(entries) = &self.entries else {
             return Ok(());
         };
-        let lexicon = self.sections.lexicon.original();
-        let lexicon = probe::with_added(lexicon, probe::added(entries).to_vec());
-        let said = spoken::say(&lexicon, self.sections.trees.original(), pending)?;
-        if said.words.iter().any(|word| !word.syllables.is_empty()) {
-            self.sheet.strings.push(said.phone_string);
+        let is_ordinary = |wanted: &Wanted| !self.exact.contains_key(&wanted.word);
+        let alike = |one: &Wanted, next: &Wanted| {
+            one.word == next.word || (is_ordinary(one) && is_ordinary(next))
+        };
+        for words in pending.chunk_by(alike) {
+            let exact = self.exact.get(&words[0].word).map_or(&[][..], probe::added);
+            let seen = [exact, probe::added(entries)].concat();
+            let lexicon = probe::with_added(self.sections.lexicon.original(), seen);
+            let said = spoken::say(&lexicon, self.sections.trees.original(), words)?;
+            if said.words.iter().any(|word| !word.syllables.is_empty()) {
+                self.sheet.strings.push(said.phone_string);
+            }
+            self.sheet.said.extend(said.words);
+            self.sheet.parts += 1;
         }
-        self.sheet.said.extend(said.words);
-        self.sheet.parts += 1;
         Ok(())
+    }
+
+    /// Whether a store's entries are the book's: the ordinary ones, and the exact ones of each word.
+    fn has_entries(&self, store: &[u8]) -> Result<bool, String> {
+        let entries = stores::read(store)?.into_iter().map(|placed| placed.entry);
+        let entries: Vec<Entry> = entries.collect();
+        let ordinary = self.entries.iter().map(|own| (Peers::Ordinary, own));
+        let exact = self.exact.iter().map(|(word, own)| (Peers::Exact(word), own));
+        let lists: Vec<_> = ordinary.chain(exact).collect();
+        let same = |(peers, own): &(Peers, &lexicon::Lexicon)| {
+            let own = probe::added(own).iter().map(|added| peers.entry(added));
+            own.eq(entries.iter().filter(|entry| peers.have(entry)).cloned())
+        };
+        let count: usize = lists.iter().map(|(_, own)| probe::added(own).len()).sum();
+        Ok(count == entries.len() && lists.iter().all(same))
     }
 }
 
@@ -159,8 +190,7 @@ impl Side for Book<'_> {
         if sheets::reading(&state.sheet) != Some(Reading::of(&said)) {
             return Err("the original says otherwise word by word than in a row".into());
         }
-        let own = self.entries.iter().flat_map(probe::added).map(entry);
-        if !own.eq(stores::read(&state.store)?.into_iter().map(|placed| placed.entry)) {
+        if !self.has_entries(&state.store)? {
             return Err("the original's entries are not the store's".into());
         }
         let phones = strings.join(" ").into_bytes();

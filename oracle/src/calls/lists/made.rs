@@ -77,7 +77,8 @@ impl Pool<'_> {
             false => (all_words.clone(), (0..40).map(|_| words::tag(random)).collect()),
         };
         let scene = Rc::new(Scene::new(&empty.sections.table, stores::new(1, 0)));
-        let adds = adding::Pool { scene, words, phones: phones.clone() };
+        let exact = !random.once_in(3);
+        let adds = adding::Pool { scene, words, phones: phones.clone(), exact };
         Pool { few, tags, all_words, adds }
     }
 

@@ -41,6 +41,22 @@ fn marked() -> [Step; 5] {
     acts.map(|act| Step { act, broken: false })
 }
 
+/// Exact entries and ordinary ones of one letter, by entry and by text, and words that they change.
+fn exact() -> [Step; 8] {
+    let exact = |word, tag, phones| Act::AddEntry(store_edges::exact(word, tag, phones));
+    let acts = [
+        exact("A", "", "s"),
+        exact("a", "n", "t"),
+        add("A", "", "k"),
+        say("A", ""),
+        say("a", "v"),
+        text("A n:ey1\na:"),
+        Act::Preview(b"A:b".into()),
+        Act::Accept,
+    ];
+    acts.map(|act| Step { act, broken: false })
+}
+
 /// Both steps, with what comes between them: another first step, one that stops, one that is refused as a whole, adds.
 fn halves() -> [Step; 8] {
     let preview = |text: &[u8]| Act::Preview(text.into());
@@ -93,6 +109,8 @@ pub fn inputs() -> Vec<Input> {
     let marked = words::every(&marked(), 4).into_iter().map(|steps| list(steps, 2, 40 * ITEM));
     let halves = words::every(&halves(), 4).into_iter().enumerate();
     let halves = halves.map(|(i, steps)| list(steps, [3, 2, 1][i % 3], 40 * ITEM));
+    let exact = words::every(&exact(), 4).into_iter().enumerate();
+    let exact = exact.map(|(i, steps)| list(steps, [4, 3, 2][i % 3], 40 * ITEM));
     let ends = [list(steps(&full), 1, LARGEST), list(broken, 4, 40 * ITEM)];
-    [every, lengths, ends.into(), marked.collect(), halves.collect()].concat()
+    [every, lengths, ends.into(), marked.collect(), halves.collect(), exact.collect()].concat()
 }

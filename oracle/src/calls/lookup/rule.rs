@@ -1,4 +1,4 @@
-//! What 01 says of a lookup: its refusal, or the source and the phones. The original is asked for the phones
+//! What the papers say of a lookup: its refusal, or the source and the phones. The original is asked for the phones
 //! too; it does not tell the source.
 
 use super::LONGEST;
@@ -37,7 +37,7 @@ fn fits(wanted: u8, tag: u8, ways: Rows) -> Option<&'static str> {
     }
 }
 
-/// What 01 says before an answer's length matters. Tells what was met on the way.
+/// What the papers say before an answer's length matters. Tells what was met on the way.
 pub fn rule(scene: &Scene, wanted: &Wanted, met: &mut Met) -> Result<Option<Origin>, u32> {
     let (lexicon, word) = (&scene.lexicon, &wanted.word);
     met.refuse(1, !lexicon.has_form(), || None)?;
@@ -49,13 +49,18 @@ pub fn rule(scene: &Scene, wanted: &Wanted, met: &mut Met) -> Result<Option<Orig
     let (has_addendum, search) = (addendum.is_some(), lexicon.search(word, tag));
     let sought = Sought { lexicon, word, tag, has_addendum, search };
     let folded = word.to_ascii_lowercase();
-    let entries = scene.entries().iter().map(|placed| &placed.entry);
-    let same: Vec<&Entry> = entries.filter(|entry| entry.word == folded).collect();
+    // 02, S-8: exact ones of the same bytes, then the ordinary ones
+    let ordinary = scene.peers(Peers::Ordinary).filter(|entry| entry.word == folded);
+    let same: Vec<&Entry> = scene.peers(Peers::Exact(word)).chain(ordinary).collect();
     let at = same.iter().position(|entry| fits(tag, entry.tag, WAYS[0]).is_some());
     let found = if let Some(at) = at {
         met.all(fits(tag, same[at].tag, WAYS[0]));
         met.all(runtime(&sought, &same, at));
-        Some(Origin { row: "runtime", phones: same[at].phones.clone() })
+        if same[at].exact {
+            met.all(by_exact(scene, &sought, &same[at..]));
+        }
+        let row = if same[at].exact { "runtime, exact" } else { "runtime" };
+        Some(Origin { row, phones: same[at].phones.clone() })
     } else if let Some((way, phones)) = addendum {
         met.row(way);
         met.all(of_addendum(&sought, phones));
@@ -68,6 +73,8 @@ pub fn rule(scene: &Scene, wanted: &Wanted, met: &mut Met) -> Result<Option<Orig
     };
     let passed = at.is_none() && found.is_some() && !same.is_empty();
     met.all(beside(passed, lexicon));
+    let passed = same.split_at(at.unwrap_or(same.len())).0;
+    met.all(passed_exact(scene, &sought, passed, at.map(|at| same[at].exact)));
     Ok(found)
 }
 
@@ -92,11 +99,12 @@ rows! { pub ROWS:
     /// What a runtime entry met that is found among those of its word.
     runtime(sought: &Sought, same: &[&Entry], at: usize) {
         let (entry, lexicon) = (same[at], sought.lexicon);
+        let peer = |other: &&&Entry| other.exact == entry.exact;
         let agrees = |other: &&Entry| other.tag == sought.tag;
-        let later = entry.tag != sought.tag && same[at + 1..].iter().any(agrees);
+        let later = entry.tag != sought.tag && same[at + 1..].iter().filter(peer).any(agrees);
     } [
         "runtime: entry '0' before one whose tag agrees" => later,
-        "runtime: an older entry's tag does not fit" => at > 0,
+        "runtime: an older entry's tag does not fit" => same[..at].iter().filter(peer).count() > 0,
         "runtime: found by folding" => entry.word != sought.word,
         "runtime: hides the addenda" => sought.has_addendum,
         "runtime: hides a compiled entry" => matches!(sought.search, Search::Entry { .. }),
@@ -165,5 +173,47 @@ rows! { pub ROWS:
         "compiled: number 255" => numbers.contains(&255),
         "compiled: words that fall elsewhere" => check == Some(Err("words that fall")),
         "compiled: checked lexicon, as 01 says directly" => check == Some(Ok(())),
+    ]
+}
+
+rows! { pub EXACT:
+    /// What an exact entry met that is found, the first of these; exact ones and ordinary ones follow.
+    by_exact(scene: &Scene, sought: &Sought, found: &[&Entry]) {
+        let entry = found[0];
+        let fits = |other: &&&Entry| fits(sought.tag, other.tag, WAYS[0]).is_some();
+        let others: Vec<&Entry> = found[1..].iter().filter(fits).copied().collect();
+        let ordinary = others.iter().find(|other| !other.exact);
+        let age = |one: &Entry| scene.keys().iter().position(|key| *key == one.key());
+        let older = |other: &&Entry| age(other) < age(entry);
+        let agrees = |exact: bool| {
+            let mut others = others.iter().filter(|other| other.exact == exact);
+            entry.tag != sought.tag && others.any(|other| other.tag == sought.tag)
+        };
+    } [
+        "exact: answers, no ordinary one fits" => ordinary.is_none(),
+        "exact: answers before an older ordinary one" => ordinary.is_some_and(older),
+        "exact: answers before a younger ordinary one" => ordinary.is_some_and(|one| !older(one)),
+        "exact: '0' before an ordinary one whose tag agrees" => agrees(false),
+        "exact: '0' before a younger exact one that agrees" => agrees(true),
+        "exact: answers before its twin" => ordinary.is_some_and(|o| o.key() == entry.key().twin()),
+        "exact: oldest of several" => others.iter().any(|other| other.exact),
+        "exact: word without capitals" => stores::is_folded(sought.word),
+    ]
+
+    /// What exact entries met that do not answer: those that were passed, and those in other capitals.
+    passed_exact(scene: &Scene, sought: &Sought, passed: &[&Entry], found: Option<bool>) {
+        let retagged = passed.iter().any(|entry| entry.exact);
+        let folds = |entry: &Entry| entry.word.eq_ignore_ascii_case(sought.word);
+        let fits = |entry: &Entry| fits(sought.tag, entry.tag, WAYS[0]).is_some();
+        let entries = || scene.entries().iter().map(|placed| &placed.entry);
+        let other = |entry: &Entry| entry.exact && entry.word != sought.word && fits(entry);
+        let recased = entries().any(|entry| folds(entry) && other(entry));
+    } [
+        "exact: its tag does not fit, an ordinary one answers" => retagged && found == Some(false),
+        "exact: its tag does not fit, a younger one answers" => retagged && found == Some(true),
+        "exact: its tag does not fit, no other answers" => retagged && found.is_none(),
+        "exact: in other capitals, an ordinary one answers" => recased && found == Some(false),
+        "exact: in other capitals, an exact one answers" => recased && found == Some(true),
+        "exact: in other capitals, no other answers" => recased && found.is_none(),
     ]
 }

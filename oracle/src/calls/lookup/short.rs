@@ -5,7 +5,8 @@ use crate::lexicon_edges::row;
 use crate::prelude::*;
 
 pub fn inputs() -> Vec<Input> {
-    [edges(), addenda_with_all_tags(), lexicons(), small_stores(), altered_bytes()].concat()
+    let stores = [small_stores(), exact_stores(), altered_bytes()].concat();
+    [edges(), addenda_with_all_tags(), lexicons(), stores].concat()
 }
 
 /// A small lexicon in good order beside a store.
@@ -95,6 +96,27 @@ fn small_stores() -> Vec<Input> {
     }
 }
 
+/// Every store that up to three adds of one letter leave, exact and ordinary ones; and the addenda in exact entries.
+fn exact_stores() -> Vec<Input> {
+    let rows = [row("A", b'n', &[0]), row("a", b'v', &[1])];
+    let lexicon = Rc::new(Lexicon::of(&["p0", "p1"], &rows));
+    let small = each! {
+        for store in store_edges::small_exact(3);
+        let scene = Rc::new(Scene::new(&lexicon, store));
+        for word in ["a", "A"];
+        ["", "n", "v", "0", "nil"].map(|tag| input(&scene, word, tag, Size::Exact))
+    };
+    let adds = lexicon_shapes::addenda().into_iter().zip(["n", "nil"].iter().cycle());
+    let adds: Vec<Add> = adds.map(|(word, tag)| store_edges::exact(word, tag, "k ae t")).collect();
+    let scene = Rc::new(Scene::new(&lexicon, store_edges::grown(60, 0, &adds)));
+    let addenda = each! {
+        for word in lexicon_shapes::addenda();
+        for word in [word.to_string(), word.to_uppercase()];
+        ["", "n", "v"].map(|tag| input(&scene, &word, tag, Size::More(1)))
+    };
+    [small, addenda].concat()
+}
+
 /// A store with each of its bytes altered, and a lexicon with each of its bytes altered.
 fn altered_bytes() -> Vec<Input> {
     let good = good(store_edges::good());
@@ -138,7 +160,8 @@ fn edges() -> Vec<Input> {
         let words = words::edges().into_iter().map(|word| input(&scene, word, "", Size::Exact));
         let tags = each! {
             for tag in words::tags();
-            [("a", Size::More(1)), ("lead", Size::Exact), ("Lead", Size::Short(1))]
+            let last = ("W0", Size::More(2));
+            [("a", Size::More(1)), ("lead", Size::Exact), ("Lead", Size::Short(1)), last]
                 .map(|(word, size)| input(&scene, word, &tag, size))
         };
         words.chain(tags)

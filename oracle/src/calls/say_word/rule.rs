@@ -23,7 +23,8 @@ fn split(phone: &[u8]) -> (&[u8], Option<u8>) {
 /// What 01 says before the items are counted. Tells what was met on the way.
 pub fn origin(input: &Input, met: &mut Met) -> Result<Origin, u32> {
     let Input { scene, trees, wanted, .. } = input;
-    let found = lookup::rule(scene, wanted, &mut Met::default());
+    let mut looked = Met::default();
+    let found = lookup::rule(scene, wanted, &mut looked);
     let formless = !scene.lexicon.has_form() || trees.names.is_none();
     met.refuse(1, formless, || by_1(&found))?;
     let sheet = sheets::read(&input.sheet).err();
@@ -33,6 +34,8 @@ pub fn origin(input: &Input, met: &mut Met) -> Result<Origin, u32> {
     met.refuse(2, store.is_some() || sheet.is_some(), whys)?;
     met.refuse(3, wanted.is_refused(), || by_3(words::is_refused(&wanted.word)))?;
     met.refuse(6, found.is_err(), || ["6: compiled entry"])?;
+    // what exact entries met
+    met.shared(looked.counted(&[]));
     if let Ok(Some(origin)) = found {
         return Ok(origin);
     }
@@ -65,7 +68,7 @@ rows! { pub ROWS:
     unread(source: &str, word: &[u8]) {
         let marked = places::place(word) > 0;
     } [
-        "runtime: '#' in the word" => marked && source == "runtime",
+        "runtime: '#' in the word" => marked && source.starts_with("runtime"),
         "addenda: '#' in the word" => marked && source == "addenda",
         "compiled: '#' in the word" => marked && source == "compiled",
     ]

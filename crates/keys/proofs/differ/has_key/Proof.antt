@@ -36,6 +36,9 @@ returns c =
 slot-requires-2 : tie.Need-slot-requires-2 Inv-loop μ-loop
 slot-requires-2 c κs = search needs
 
+is-exact-requires : tie.Need-is-exact-requires Inv-loop μ-loop
+is-exact-requires c κs = search needs
+
 word-requires : tie.Need-word-requires Inv-loop μ-loop
 word-requires c κs = search needs
 
@@ -48,11 +51,11 @@ is-wanted-requires c κs = search needs
 returns-2 : tie.Need-returns-2 Inv-loop μ-loop
 unfolding sameKey entryAt
 returns-2 c =
-    let b = c .before .before .before .before .before .before .before .before .before .before .before .args .store .now in
-    let m = c .before .before .before .before .before .before .before .before .before .before .before .args .m in
-    let q = c .before .before .before .before .before .before .next .result in
-    let k : c .before .is-wanted .result ≡ sameKey (entryAt b m) (entryAt b q) = c .before .is-wanted .ensures ∙ rw (c .before .before .before .word .ensures, c .before .before .tag .ensures, c .before .before .before .before .before .before .before .before .before .slot .ensures, c .before .before .before .before .slot2 .ensures) in
-    sym (c .before .before .before .before .before .before .before .before .loop .inv .0 ∙ has-hit (next b) (entryAt b) (sameKey (entryAt b m)) (c .before .before .before .before .before .before .before .before .loop .left) (c .before .before .before .before .before .before .before .before .loop .q) q (omega arith) (c .before .before .before .before .before .before .next .ensures .0) (c .before .before .before .before .before .if1 .left) (sym k ∙ c .if2 .taken))
+    let b = c .before .before .before .before .before .before .before .before .before .before .before .before .args .store .now in
+    let m = c .before .before .before .before .before .before .before .before .before .before .before .before .args .m in
+    let q = c .before .before .before .before .before .before .before .next .result in
+    let k : c .before .is-wanted .result ≡ sameKey (entryAt b m) (entryAt b q) = c .before .is-wanted .ensures ∙ rw (c .before .before .before .before .is-exact .ensures, c .before .before .before .word .ensures, c .before .before .tag .ensures, c .before .before .before .before .before .before .before .before .before .before .slot .ensures, c .before .before .before .before .before .slot2 .ensures) in
+    sym (c .before .before .before .before .before .before .before .before .before .loop .inv .0 ∙ has-hit (next b) (entryAt b) (sameKey (entryAt b m)) (c .before .before .before .before .before .before .before .before .before .loop .left) (c .before .before .before .before .before .before .before .before .before .loop .q) q (omega arith) (c .before .before .before .before .before .before .before .next .ensures .0) (c .before .before .before .before .before .before .if1 .left) (sym k ∙ c .if2 .taken))
 
 sub-left : tie.Need-sub-left Inv-loop μ-loop
 sub-left c = search needs
@@ -63,11 +66,11 @@ loop-less c = omega arith
 loop-again : tie.Need-loop-again Inv-loop μ-loop
 unfolding sameKey entryAt
 loop-again c =
-    let b = c .before .before .before .before .before .before .before .before .before .before .before .args .store .now in
-    let m = c .before .before .before .before .before .before .before .before .before .before .before .args .m in
-    let q = c .before .before .before .before .before .before .next .result in
-    let k : c .before .is-wanted .result ≡ sameKey (entryAt b m) (entryAt b q) = c .before .is-wanted .ensures ∙ rw (c .before .before .before .word .ensures, c .before .before .tag .ensures, c .before .before .before .before .before .before .before .before .before .slot .ensures, c .before .before .before .before .slot2 .ensures) in
-    (c .before .before .before .before .before .before .before .before .loop .inv .0 ∙ has-turn (next b) (entryAt b) (sameKey (entryAt b m)) (c .before .before .before .before .before .before .before .before .loop .left) (c .before .before .before .before .before .before .before .before .loop .q) q (omega arith) (c .before .before .before .before .before .before .next .ensures .0) (c .before .before .before .before .before .if1 .left) (sym k ∙ c .if2 .left), c .before .before .before .before .before .before .next .ensures .1)
+    let b = c .before .before .before .before .before .before .before .before .before .before .before .before .args .store .now in
+    let m = c .before .before .before .before .before .before .before .before .before .before .before .before .args .m in
+    let q = c .before .before .before .before .before .before .before .next .result in
+    let k : c .before .is-wanted .result ≡ sameKey (entryAt b m) (entryAt b q) = c .before .is-wanted .ensures ∙ rw (c .before .before .before .before .is-exact .ensures, c .before .before .before .word .ensures, c .before .before .tag .ensures, c .before .before .before .before .before .before .before .before .before .before .slot .ensures, c .before .before .before .before .before .slot2 .ensures) in
+    (c .before .before .before .before .before .before .before .before .before .loop .inv .0 ∙ has-turn (next b) (entryAt b) (sameKey (entryAt b m)) (c .before .before .before .before .before .before .before .before .before .loop .left) (c .before .before .before .before .before .before .before .before .before .loop .q) q (omega arith) (c .before .before .before .before .before .before .before .next .ensures .0) (c .before .before .before .before .before .before .if1 .left) (sym k ∙ c .if2 .left), c .before .before .before .before .before .before .before .next .ensures .1)
 
 returns-3 : tie.Need-returns-3 Inv-loop μ-loop
 returns-3 c =
@@ -85,6 +88,7 @@ has-key-spec =
     next-requires
     returns
     slot-requires-2
+    is-exact-requires
     word-requires
     tag-requires
     is-wanted-requires

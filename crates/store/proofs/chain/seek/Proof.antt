@@ -10,10 +10,10 @@ use Rattle.store.proofs.chain.seek.Statement.{statement}
 use Rattle.store.proofs.chain.seek.Tie as tie
 
 abbrev Inv-loop : tie.InvT-loop
-Inv-loop store n any word tag p₀ left₀ p left = (seek store (isWanted any word tag) n 0 ≡ seek store (isWanted any word tag) left p) × (p < 65536)
+Inv-loop store n exact any word tag p₀ left₀ p left = (seek store (isWanted exact any word tag) n 0 ≡ seek store (isWanted exact any word tag) left p) × (p < 65536)
 
 abbrev μ-loop : tie.MeasureT-loop
-μ-loop store n any word tag p₀ left₀ p left = left
+μ-loop store n exact any word tag p₀ left₀ p left = left
 
 loop-holds : tie.Need-loop-holds Inv-loop μ-loop
 loop-holds c = (refl, omega arith)
@@ -24,7 +24,7 @@ next-requires c κs = search needs
 returns : tie.Need-returns Inv-loop μ-loop
 returns c =
     let a = c .before .before .before .before .before .before .args in
-    (sym (c .before .before .before .loop .inv .0 ∙ seek-stop (a .store .now) (isWanted (a .any) (a .word .now) (a .tag)) (c .before .before .before .loop .left) (c .before .before .before .loop .p) (sym (c .before .next .ensures .0) ∙ c .if1 .taken)), c .before .before .before .loop .inv .1)
+    (sym (c .before .before .before .loop .inv .0 ∙ seek-stop (a .store .now) (isWanted (a .exact) (a .any) (a .word .now) (a .tag)) (c .before .before .before .loop .left) (c .before .before .before .loop .p) (sym (c .before .next .ensures .0) ∙ c .if1 .taken)), c .before .before .before .loop .inv .1)
 
 slot-requires : tie.Need-slot-requires Inv-loop μ-loop
 slot-requires c κs = search needs
@@ -37,8 +37,8 @@ unfolding entryAt
 returns-2 c =
     let a = c .before .before .before .before .before .before .before .before .before .args in
     let q = c .before .before .before .before .next .result in
-    let k : c .before .is-wanted .result ≡ isWanted (a .any) (a .word .now) (a .tag) (entryAt (a .store .now) q) = c .before .is-wanted .ensures ∙ rw (c .before .before .slot .ensures) in
-    (sym (c .before .before .before .before .before .before .loop .inv .0 ∙ seek-hit (a .store .now) (isWanted (a .any) (a .word .now) (a .tag)) (c .before .before .before .before .before .before .loop .left) (c .before .before .before .before .before .before .loop .p) q (omega arith) (c .before .before .before .before .next .ensures .0) (c .before .before .before .if1 .left) (sym k ∙ c .if2 .taken)), c .before .before .before .before .before .before .loop .inv .1)
+    let k : c .before .is-wanted .result ≡ isWanted (a .exact) (a .any) (a .word .now) (a .tag) (entryAt (a .store .now) q) = c .before .is-wanted .ensures ∙ rw (c .before .before .slot .ensures) in
+    (sym (c .before .before .before .before .before .before .loop .inv .0 ∙ seek-hit (a .store .now) (isWanted (a .exact) (a .any) (a .word .now) (a .tag)) (c .before .before .before .before .before .before .loop .left) (c .before .before .before .before .before .before .loop .p) q (omega arith) (c .before .before .before .before .next .ensures .0) (c .before .before .before .if1 .left) (sym k ∙ c .if2 .taken)), c .before .before .before .before .before .before .loop .inv .1)
 
 sub-left : tie.Need-sub-left Inv-loop μ-loop
 sub-left c = search needs
@@ -51,13 +51,13 @@ unfolding entryAt
 loop-again c =
     let a = c .before .before .before .before .before .before .before .before .before .args in
     let q = c .before .before .before .before .next .result in
-    let k : c .before .is-wanted .result ≡ isWanted (a .any) (a .word .now) (a .tag) (entryAt (a .store .now) q) = c .before .is-wanted .ensures ∙ rw (c .before .before .slot .ensures) in
-    (c .before .before .before .before .before .before .loop .inv .0 ∙ seek-turn (a .store .now) (isWanted (a .any) (a .word .now) (a .tag)) (c .before .before .before .before .before .before .loop .left) (c .before .before .before .before .before .before .loop .p) q (omega arith) (c .before .before .before .before .next .ensures .0) (c .before .before .before .if1 .left) (sym k ∙ c .if2 .left), c .before .before .before .before .next .ensures .1)
+    let k : c .before .is-wanted .result ≡ isWanted (a .exact) (a .any) (a .word .now) (a .tag) (entryAt (a .store .now) q) = c .before .is-wanted .ensures ∙ rw (c .before .before .slot .ensures) in
+    (c .before .before .before .before .before .before .loop .inv .0 ∙ seek-turn (a .store .now) (isWanted (a .exact) (a .any) (a .word .now) (a .tag)) (c .before .before .before .before .before .before .loop .left) (c .before .before .before .before .before .before .loop .p) q (omega arith) (c .before .before .before .before .next .ensures .0) (c .before .before .before .if1 .left) (sym k ∙ c .if2 .left), c .before .before .before .before .next .ensures .1)
 
 returns-3 : tie.Need-returns-3 Inv-loop μ-loop
 returns-3 c =
     let a = c .before .before .before .before .args in
-    (sym (c .before .loop .inv .0 ∙ seek-end (a .store .now) (isWanted (a .any) (a .word .now) (a .tag)) (c .before .loop .left) (c .before .loop .p) (omega arith)), c .before .loop .inv .1)
+    (sym (c .before .loop .inv .0 ∙ seek-end (a .store .now) (isWanted (a .exact) (a .any) (a .word .now) (a .tag)) (c .before .loop .left) (c .before .loop .p) (omega arith)), c .before .loop .inv .1)
 
 pub seek-spec : {M : Type 1} → statement M
 seek-spec =

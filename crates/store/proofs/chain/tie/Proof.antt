@@ -1,9 +1,6 @@
 -- `store::tie` meets its contract: the slot's bytes are replaced by the slot of the entry, then the two fields are written. Assumes nothing.
 use native.Mathlib.Omega.{arith}
-use mathlib.Core.List.{map}
-use Rattle.texts.specs.Text.{folded}
-use Rattle.cells.specs.Cells.{phonesOf}
-use Rattle.slots_spec.specs.Slot.{Entry}
+use Rattle.store_spec.specs.Adding.{entryFor}
 use Rattle.store_spec.specs.Laws.Turns.{tied-written}
 use borrow.Author.Needs.{needs}
 use Rattle.store.proofs.chain.tie.Statement.{statement}
@@ -52,9 +49,10 @@ same-length : tie.Need-same-length
 same-length c = search needs
 
 returns : tie.Need-returns
+unfolding entryFor
 returns c =
     let a = c .before .before .before .before .before .before .before .before .before .before .before .before .before .before .before .before .before .args in
-    let e : Entry = record { tag = a .tag; word = map folded (a .word .now); phones = phonesOf (a .phones .now) } in
+    let e = entryFor (a .tag) (a .word .now) (a .phones .now) (a .exact) in
     tied-written (a .store .now) (c .before .before .before .before .before .before .before .before .before .before .write .last .0) (c .before .before .before .before .before .before .put-u16 .last .0) (c .before .before .put-u162 .last .0) (a .n) (c .before .before .before .before .before .before .before .before .before .before .before .before .u16-at .result) e
     (c .before .before .before .before .before .before .before .before .before .before .before .before .u16-at .ensures) (c .before .before .before .before .before .before .before .before .before .before .write .ensures) (omega (arith, c .before .before .before .before .before .before .before .before .before .before .write .kept .0)) (c .before .before .before .before .before .before .put-u16 .ensures) (c .before .before .put-u162 .ensures)
 
