@@ -3,11 +3,8 @@
 
 mod sections;
 
-use pronouncer::{
-    example, Lexicon, PhoneList, Refusal, Sheet, Source, Store, LARGEST_BYTES, LIST_BYTES,
-    SLOT_BYTES,
-};
-use sections::{cells, reading, with_count, NO_WORDS};
+use pronouncer::{example, PhoneList, Refusal, Sheet, Source, Store, LARGEST_BYTES, SLOT_BYTES};
+use sections::{cells, found, reading, with_count, NO_WORDS};
 
 /// A word, a tag, a phone, and whether the entry is exact.
 type Added<'a> = (&'a str, &'a str, &'a str, bool);
@@ -24,18 +21,6 @@ fn a_store(most: usize, added: &[Added]) -> Vec<u8> {
     let mut store = Store::new_store(&mut bytes).expect("a store");
     added.iter().for_each(|&entry| assert_eq!(add(&mut store, entry), Ok(())));
     bytes
-}
-
-/// The source of a word and its phones as a line.
-fn found(
-    lexicon: &Lexicon<'_>,
-    store: &Store<'_>,
-    word: &str,
-    tag: &str,
-) -> Option<(Source, String)> {
-    let mut out = [0; LIST_BYTES];
-    let found = lexicon.lookup(store, word, tag, &mut out).expect("it is accepted");
-    found.map(|found| (found.source, found.phones.to_string()))
 }
 
 /// The phones that a store of these entries has for a word and a tag; "" where it has none.

@@ -3,10 +3,10 @@
 mod sections;
 
 use pronouncer::{
-    example, is_vowel, split_stress, Found, Lexicon, PhoneList, Refusal, Sayable, Source, Store,
-    Stress, LIST_BYTES,
+    example, is_vowel, split_stress, Lexicon, PhoneList, Refusal, Sayable, Source, Store, Stress,
+    LIST_BYTES,
 };
-use sections::{cells, entries, phone_table, NO_TREES, NO_WORDS};
+use sections::{cells, entries, found, phone_table, NO_TREES, NO_WORDS};
 
 #[test]
 fn marks() {
@@ -38,18 +38,6 @@ fn stress() {
     assert_eq!(split_stress("0"), ("", Some(Stress::Unstressed)));
     assert_eq!(split_stress(""), ("", None));
     assert!(is_vowel("ax") && !is_vowel("pau") && !is_vowel("é"));
-}
-
-/// Looks a word up in a lexicon; its source and phones as a line.
-fn found(
-    lexicon: &Lexicon<'_>,
-    store: &Store<'_>,
-    word: &str,
-    tag: &str,
-) -> Option<(Source, String)> {
-    let mut out = [0; LIST_BYTES];
-    let found = lexicon.lookup(store, word, tag, &mut out).expect("it is accepted");
-    found.map(|Found { source, phones }| (source, phones.to_string()))
 }
 
 #[test]

@@ -1,7 +1,7 @@
-//! Sections built by hand, a store with another count, and a sheet as one line of text.
+//! Sections built by hand, a word that is looked up, a store with another count, and a sheet as one line of text.
 #![allow(dead_code)] // each test file takes what it needs
 
-use pronouncer::{Letters, Lexicon, Sheet};
+use pronouncer::{Letters, Lexicon, Sheet, Source, Store, LIST_BYTES};
 
 /// lex.phones or lts.phones.
 pub fn phone_table(phones: &[&str]) -> Vec<u8> {
@@ -25,6 +25,18 @@ pub fn entries(entries: &[(&str, u8, &[u8])]) -> (Vec<u8>, Vec<u8>) {
         data.extend(*numbers);
     }
     (index, data)
+}
+
+/// The source of a word and its phones as a line.
+pub fn found(
+    lexicon: &Lexicon<'_>,
+    store: &Store<'_>,
+    word: &str,
+    tag: &str,
+) -> Option<(Source, String)> {
+    let mut out = [0; LIST_BYTES];
+    let found = lexicon.lookup(store, word, tag, &mut out).expect("it is accepted");
+    found.map(|found| (found.source, found.phones.to_string()))
 }
 
 /// A phone list of any phones, known or not.
