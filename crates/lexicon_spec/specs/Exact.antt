@@ -4,7 +4,7 @@ use Prim.Native.Nat.{ℕ}
 use mathlib.Core.Path.{_≡_, refl}
 use mathlib.Core.Bool.{Bool, true, false, not, _&&_, Bool·beq}
 use mathlib.Core.List.{List, [], _∷_, map}
-use mathlib.Core.Option.{none, some}
+use mathlib.Core.Option.{none, some, orElse}
 use borrow.Author.Tests.{not-true}
 use Rattle.texts.specs.Choice.{both-true, cases}
 use Rattle.texts.specs.Lists.{every, first, every-append}
@@ -34,22 +34,22 @@ exact-bytes any word tag e h =
 -- the oldest one that matches is preferred to an ordinary one of any age
 pub exact-preferred : (es : List Entry) (word : List ℕ) (tag : ℕ) (e : Entry) → first (isWanted true true word tag) es ≡ some e
     → chosenEntry es word tag ≡ some e
-unfolding chosenEntry
+unfolding chosenEntry orElse
 exact-preferred es word tag e h = rw h
 
 -- failing one, the oldest ordinary one is chosen
 pub ordinary-next : (es : List Entry) (word : List ℕ) (tag : ℕ) → first (isWanted true true word tag) es ≡ none
     → chosenEntry es word tag ≡ first (isWanted false true (map folded word) tag) es
-unfolding chosenEntry
+unfolding chosenEntry orElse
 ordinary-next es word tag h = rw h
 
 -- 01's match: the word, folded against folded, and a tag that agrees
 unfoldable pub matches : List ℕ → ℕ → Entry → Bool
 matches word tag e = same (e .word) (map folded word) && agree true (e .tag) tag
 
--- the key of 01: word and tag
-unfoldable pub samePlainKey : Entry → Entry → Bool
-samePlainKey a b = same (b .word) (a .word) && agree false (b .tag) (a .tag)
+-- 01's key: these two have one word and one tag
+unfoldable pub sameWordAndTag : Entry → Entry → Bool
+sameWordAndTag a b = same (b .word) (a .word) && agree false (b .tag) (a .tag)
 
 -- of ordinary entries none is wanted as exact, and those that 01 matches are wanted
 pub none-exact : (word : List ℕ) (tag : ℕ) (es : List Entry) → every isOrdinary es ≡ true → first (isWanted true true word tag) es ≡ none
@@ -70,7 +70,7 @@ as-matched word tag (e ∷ es) h =
 module _ (es : List Entry) (ordinary : every isOrdinary es ≡ true) where
   -- without exact entries, the entry chosen is the oldest that 01 matches
   pub chosen-ordinary : (word : List ℕ) (tag : ℕ) → chosenEntry es word tag ≡ first (matches word tag) es
-  unfolding chosenEntry
+  unfolding chosenEntry orElse
   chosen-ordinary word tag = rw (none-exact word tag es ordinary, as-matched word tag es ordinary)
 
   -- and a word comes to what it came to
@@ -93,6 +93,6 @@ module _ (es : List Entry) (ordinary : every isOrdinary es ≡ true) where
           cases (sameKey e x) (λ s. rw s ih) (λ s. rw (s, b .0) ih)
 
 -- and two ordinary entries are the same as in 01
-pub key-ordinary : (a b : Entry) → isOrdinary a ≡ true → isOrdinary b ≡ true → sameKey a b ≡ samePlainKey a b
-unfolding isOrdinary sameKey isWanted samePlainKey
+pub key-ordinary : (a b : Entry) → isOrdinary a ≡ true → isOrdinary b ≡ true → sameKey a b ≡ sameWordAndTag a b
+unfolding isOrdinary sameKey isWanted sameWordAndTag
 key-ordinary a b h k = rw (not-true (a .exact) h, not-true (b .exact) k)

@@ -6,7 +6,7 @@ use native.Mathlib.Omega.{arith}
 use mathlib.Core.Path.{_≡_}
 use mathlib.Core.Bool.{true, false}
 use mathlib.Core.List.{List, _++_, map}
-use mathlib.Core.Option.{Option, none, some}
+use mathlib.Core.Option.{Option, none, some, orElse}
 use lib.Dec.{ltb}
 use lib.ListN.{length, getD, drop}
 use borrow.Author.Tests.{lt-ltb, le-ltb}
@@ -37,11 +37,6 @@ pub data Finding : Type 0 where
 -- the wanted tag is the tag's first byte, or "0" if it is empty
 unfoldable pub wantedTag : List ℕ → ℕ
 wantedTag tag = getD tag 0 48
-
--- the first of two that is there
-abbrev pub orElse : Option Entry → Option Entry → Option Entry
-orElse (some e) other = some e
-orElse none other = other
 
 -- the oldest exact entry of the word's own bytes whose tag agrees; failing that, the oldest ordinary one, folded against folded
 unfoldable pub chosenEntry : List Entry → List ℕ → ℕ → Option Entry

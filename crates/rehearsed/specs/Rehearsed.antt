@@ -7,7 +7,7 @@ use mathlib.Core.Path.{_≡_, refl, ap, _∙_}
 use mathlib.Core.Bool.{true, false}
 use mathlib.Core.List.{List, [], _∷_, _++_, map}
 use lib.ListN.{length, drop}
-use mathlib.Core.Option.{some}
+use mathlib.Core.Option.{some, orElse}
 use borrow.Author.Tests.{le-ltb}
 use Rattle.texts.specs.Lists.{every, some as any, place, behindLast, first}
 use Rattle.texts.specs.Text.{bytes, folded, isWord, ascii, low, same, is, agree}
@@ -87,11 +87,17 @@ abbrev exactly : String → String → List String → Add
 exactly w t ps = record { word = bytes w; tag = bytes t; phones = cellsOf (map bytes ps); exact = true }
 
 -- to polish, and what comes from Poland
+abbrev theVerb : List String
+theVerb = "p" ∷ "aa" ∷ "l" ∷ "ih" ∷ "sh" ∷ []
+
+abbrev theName : List String
+theName = "p" ∷ "ow" ∷ "l" ∷ "ih" ∷ "sh" ∷ []
+
 abbrev toPolish : Add
-toPolish = entry "Polish" "" ("p" ∷ "aa" ∷ "l" ∷ "ih" ∷ "sh" ∷ [])
+toPolish = entry "Polish" "" theVerb
 
 abbrev fromPoland : Add
-fromPoland = exactly "Polish" "" ("p" ∷ "ow" ∷ "l" ∷ "ih" ∷ "sh" ∷ [])
+fromPoland = exactly "Polish" "" theName
 
 unfoldable pub cases : List Case
 cases =
@@ -112,8 +118,8 @@ cases =
     looked (entry "lead" "v" ("l" ∷ "iy" ∷ "d" ∷ []) ∷ entry "lead" "n" ("l" ∷ "eh" ∷ "d" ∷ []) ∷ []) "lead" Runtime ("l" ∷ "iy" ∷ "d" ∷ []) ∷
     looked (entry "lead" "v" ("l" ∷ "iy" ∷ "d" ∷ []) ∷ entry "lead" "n" ("l" ∷ "eh" ∷ "d" ∷ []) ∷ entry "lead" "v" ("l" ∷ "iy" ∷ "d" ∷ []) ∷ [])
     "lead" Runtime ("l" ∷ "eh" ∷ "d" ∷ []) ∷
-    looked (toPolish ∷ fromPoland ∷ []) "Polish" Runtime ("p" ∷ "ow" ∷ "l" ∷ "ih" ∷ "sh" ∷ []) ∷
-    looked (fromPoland ∷ toPolish ∷ []) "POLISH" Runtime ("p" ∷ "aa" ∷ "l" ∷ "ih" ∷ "sh" ∷ []) ∷
+    looked (toPolish ∷ fromPoland ∷ []) "Polish" Runtime theName ∷
+    looked (fromPoland ∷ toPolish ∷ []) "POLISH" Runtime theVerb ∷
     []
 
 -- a word without letters behind its last "#" needs no tree
@@ -148,7 +154,7 @@ plain adds word s ps p w f few lex-phones lex-index lex-data b out l n room fits
     rw n (g .taken, a .0, a .1)
 
 pub rehearsed : Each cases
-unfolding cases syllabify syllabified phonesOf cellsOf cell text records firstRecords asciiPhones shortPhones shortCell ascii low every any same is place phones rowOf isVowel onsets isOnset marksOf cut joined lastByte isStressed stress bare isWord folded letters stopped behindLast upTo padded isPlain isOwn isKnown book find first isWanted isMeant addenda agree chosenEntry storedWord newEntry entryFor addedTag adding without sameKey
+unfolding cases syllabify syllabified phonesOf cellsOf cell text records firstRecords asciiPhones shortPhones shortCell ascii low every any same is place phones rowOf isVowel onsets isOnset marksOf cut joined lastByte isStressed stress bare isWord folded letters stopped behindLast upTo padded isPlain isOwn isKnown book find first isWanted isMeant addenda agree chosenEntry orElse storedWord newEntry entryFor addedTag adding without sameKey
 rehearsed = (
   (refl, refl),
   (
@@ -182,8 +188,8 @@ rehearsed = (
                               (
                                 plain (entry "lead" "v" ("l" ∷ "iy" ∷ "d" ∷ []) ∷ entry "lead" "n" ("l" ∷ "eh" ∷ "d" ∷ []) ∷ entry "lead" "v" ("l" ∷ "iy" ∷ "d" ∷ []) ∷ []) (bytes "lead") Runtime (map bytes ("l" ∷ "eh" ∷ "d" ∷ [])) refl refl (λ p i d. refl) (omega arith),
                                 (
-                                  plain (toPolish ∷ fromPoland ∷ []) (bytes "Polish") Runtime (map bytes ("p" ∷ "ow" ∷ "l" ∷ "ih" ∷ "sh" ∷ [])) refl refl (λ p i d. refl) (omega arith),
-                                  (plain (fromPoland ∷ toPolish ∷ []) (bytes "POLISH") Runtime (map bytes ("p" ∷ "aa" ∷ "l" ∷ "ih" ∷ "sh" ∷ [])) refl refl (λ p i d. refl) (omega arith), tt),
+                                  plain (toPolish ∷ fromPoland ∷ []) (bytes "Polish") Runtime (map bytes theName) refl refl (λ p i d. refl) (omega arith),
+                                  (plain (fromPoland ∷ toPolish ∷ []) (bytes "POLISH") Runtime (map bytes theVerb) refl refl (λ p i d. refl) (omega arith), tt),
                                 ),
                               ),
                             ),

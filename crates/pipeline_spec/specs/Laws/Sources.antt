@@ -5,7 +5,7 @@ use native.Mathlib.Omega.{arith}
 use mathlib.Core.Path.{_≡_, refl}
 use mathlib.Core.Bool.{true, false, _&&_}
 use mathlib.Core.List.{List, [], _∷_, map}
-use mathlib.Core.Option.{Option, none, some}
+use mathlib.Core.Option.{Option, none, some, orElse}
 use lib.Dec.{leb, ltb}
 use lib.ListN.{length, getD}
 use borrow.Author.Tests.{leb-true}
@@ -27,7 +27,7 @@ use Rattle.compiled_spec.specs.Search.{chosen}
 use Rattle.compiled_spec.specs.declared.Chosen.{Chosen}
 use Rattle.compiled_spec.specs.declared.Chosen.the-variants.{Damaged as entryDamaged, Missing, Entry as At}
 use Rattle.lts_spec.specs.FewPhones.{table-phone}
-use Rattle.lexicon_spec.specs.Lookup.{orElse, chosenEntry, Finding, nothing, damaged, found, onEntry, onRow, onChosen, fromCompiled, find}
+use Rattle.lexicon_spec.specs.Lookup.{chosenEntry, Finding, nothing, damaged, found, onEntry, onRow, onChosen, fromCompiled, find}
 
 -- phones of at most 15 bytes
 abbrev pub Fit : Finding → Type 0
@@ -71,6 +71,7 @@ chosen-fit table index dat (At i) t =
 
 -- an entry that is chosen fits, as all do
 either-passes : (a b : Option Entry) → Passes fits a → Passes fits b → Passes fits (orElse a b)
+unfolding orElse
 either-passes none b h k = k
 either-passes (some e) b h k = h
 
