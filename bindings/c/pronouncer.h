@@ -234,6 +234,8 @@ struct pronouncer_answer pronouncer_new_store(uint8_t *store, size_t store_len);
  * one in small letters. Of the tag the first byte is kept; no tag, and "nil", are "0". An entry of the
  * same key is replaced: it keeps its slot and becomes the last. A key is the word as it is kept, the
  * tag, and whether the entry is exact: ordinary "polish", exact "polish" and exact "Polish" are three.
+ * Entries whose words differ in more than capitals may be added in any order: neither
+ * pronouncer_lookup nor pronouncer_say_word then tells which came first.
  *
  * table: lex.phones. store: a sound store. word, tag. phones: a list of at most 24, each of them in
  * lex.phones or one of the 50. exact: whether the entry is exact.

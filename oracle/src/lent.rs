@@ -112,6 +112,8 @@ pub enum Size {
     Exact,
     More(usize),
     Short(usize),
+    /// So many bytes, whatever its answer needs.
+    Bytes(usize),
 }
 
 /// An output: its length, and the bytes in it at first.
@@ -159,6 +161,7 @@ impl Room {
             Size::Exact => need,
             Size::More(more) => need + more,
             Size::Short(less) => need.saturating_sub(less),
+            Size::Bytes(len) => len,
         };
         let byte = |i: usize| self.fill.wrapping_add(self.step.wrapping_mul(i as u8));
         (0..len).map(byte).collect()
@@ -169,7 +172,7 @@ impl Room {
 impl Shrink for Room {
     fn smaller(&self) -> Vec<Room> {
         let sizes = match self.size {
-            Size::Exact => vec![],
+            Size::Exact | Size::Bytes(_) => vec![],
             Size::More(1) | Size::Short(1) => vec![Size::Exact],
             Size::More(n) => vec![Size::Exact, Size::More(1), Size::More(n / 2)],
             Size::Short(n) => vec![Size::Exact, Size::Short(1), Size::Short(n / 2)],

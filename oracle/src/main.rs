@@ -16,6 +16,7 @@ mod lexicon_edges;
 mod lexicon_shapes;
 mod lexicons;
 mod lines;
+mod log;
 mod machines;
 mod notation;
 mod ours;

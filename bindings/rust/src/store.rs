@@ -61,6 +61,9 @@ impl<'a> Store<'a> {
     /// An entry of the same key goes: the word as it is kept, the tag, and whether it is exact. So `polish`, exact
     /// `polish` and exact `Polish` stand beside each other.
     ///
+    /// Entries whose words differ in more than capitals may be added in any order: no word that is looked up or said
+    /// then tells which came first.
+    ///
     /// # Errors
     ///
     /// [`Section`](crate::Refusal::Section) for lex.phones, [`Unsound`](crate::Refusal::Unsound),

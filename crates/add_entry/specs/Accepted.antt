@@ -12,7 +12,7 @@ use Rattle.texts.specs.Choice.{cases}
 use Rattle.texts.specs.Text.{isWord}
 use Rattle.cells.specs.Cells.{asciiPhones}
 use Rattle.data.specs.Sections.{isPhoneTable}
-use Rattle.slots_spec.specs.Slot.{Entry, Fits}
+use Rattle.slots_spec.specs.Slot.{Entry}
 use Rattle.store_spec.specs.Store.{entries, isSound, count, largest}
 use Rattle.store_spec.specs.Adding.{adding, added, isFull}
 use Rattle.store_spec.specs.Sound.{Sound, sound}
@@ -33,12 +33,18 @@ pub record Entered (b c : List ℕ) (e : Entry) : Type 0 where
   pub rises : eqb (count b) largest ≡ false
   pub count : count b < largest → count c ≡ count b + 1
 
--- what the tests say where add entry is accepted
-pub record Taken (table store word tag phones : List ℕ) (exact : Bool) : Type 0 where
+-- what the tests before the store's room say where they pass
+pub record Passed (table store word tag phones : List ℕ) : Type 0 where
   pub tabled : isPhoneTable table ≡ true
-  pub stored : Sound store
+  pub stored : isSound store ≡ true
   pub rises : eqb (count store) largest ≡ false
-  pub fits : Fits (newEntry word tag phones exact)
+  pub texts : (isWord word && isWord tag && asciiPhones phones) ≡ true
+  pub known : mayAddAll table phones ≡ true
+  pub few : ltb 24 (length phones / 16) ≡ false
+
+-- what all of them say where add entry is accepted
+pub record Taken (table store word tag phones : List ℕ) (exact : Bool) : Type 0 where
+  pub passed : Passed table store word tag phones
   pub free : isFull store (newEntry word tag phones exact) ≡ false
 
 module _ (table store word tag phones : List ℕ) (exact : Bool) where
@@ -52,12 +58,16 @@ module _ (table store word tag phones : List ℕ) (exact : Bool) where
       (λ t₇. never-accepted Phones 0 0 0 (rw (t₁, t₂, t₁₂, t₃, t₅, t₇) at h))
       (λ t₇. cases (isFull store (newEntry word tag phones exact))
       (λ t₈. never-accepted Full 0 0 0 (rw (t₁, t₂, t₁₂, t₃, t₅, t₇, t₈) at h))
-      (λ t₈. let f = new-fits word tag phones exact t₃ (ltb-false 24 (length phones / 16) t₇) in
-      record { tabled = t₁; stored = sound store t₂; rises = t₁₂; fits = f; free = t₈ })))
+      (λ t₈. record { passed = record { tabled = t₁; stored = t₂; rises = t₁₂; texts = t₃; known = t₅; few = t₇ }; free = t₈ })))
       (λ t₅. never-accepted UnknownPhone 0 0 0 (rw (t₁, t₂, t₁₂, t₃, t₅) at h)))
       (λ t₃. never-accepted Text 0 0 0 (rw (t₁, t₂, t₁₂, t₃) at h))))
       (λ t₂. never-accepted Unsound 0 0 0 (rw (t₁, t₂) at h)))
       (λ t₁. never-accepted Section 0 0 0 (rw t₁ at h))
+
+  -- and there it is accepted
+  pub taken-accepted : Taken table store word tag phones exact → addEntry table store word tag phones exact ≡ accepted 0 0
+  unfolding addEntry
+  taken-accepted t = let p = t .passed in rw (p .tabled, p .stored, p .rises, p .texts, p .known, p .few, t .free)
 
   -- an answer without a refusal has nothing else to tell
   pub accepted-is : addEntry table store word tag phones exact .refusal ≡ 0 → addEntry table store word tag phones exact ≡ accepted 0 0
@@ -82,13 +92,15 @@ module _ (table store word tag phones : List ℕ) (exact : Bool) where
   unfolding storeAfter
   add-law h =
       let t = taken h in
+      let p = t .passed in
       let e = newEntry word tag phones exact in
-      let a = room store e (t .stored) (t .fits) (t .free) in
+      let f = new-fits word tag phones exact (p .texts) (ltb-false 24 (length phones / 16) (p .few)) in
+      let a = room store e (sound store (p .stored)) f (t .free) in
       let n = count store + 1 in
       rw h (record {
         sound = counted (added store e) n (a .sound);
         entries = counted-entries (added store e) n (a .sound) ∙ a .entries;
         length = counted-length (added store e) n ∙ a .length;
-        rises = t .rises;
+        rises = p .rises;
         count = λ l. counted-count (added store e) n (a .sound) (omega (arith, l));
       })

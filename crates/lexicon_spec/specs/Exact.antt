@@ -2,19 +2,19 @@
 -- Assumes nothing.
 use Prim.Native.Nat.{ℕ}
 use mathlib.Core.Path.{_≡_, refl}
-use mathlib.Core.Bool.{Bool, true, false, not, _&&_, Bool·beq}
+use mathlib.Core.Bool.{Bool, true, false, not, _&&_}
 use mathlib.Core.List.{List, [], _∷_, map}
 use mathlib.Core.Option.{none, some, orElse}
 use borrow.Author.Tests.{not-true}
 use Rattle.texts.specs.Choice.{both-true, cases}
 use Rattle.texts.specs.Lists.{every, first, every-append}
-use Rattle.texts.specs.Text.{folded, same, same-true, agree}
+use Rattle.texts.specs.Text.{folded, same, agree}
 use Rattle.addenda.specs.Addenda.{addenda}
 use Rattle.addenda.specs.Find.{isMeant}
 use Rattle.slots_spec.specs.Slot.{Entry, isOrdinary}
 use Rattle.store_spec.specs.Store.{isWanted, sameKey}
 use Rattle.store_spec.specs.Adding.{entryFor, without, adding}
-use Rattle.store_spec.specs.Laws.Keys.{beq-true}
+use Rattle.store_spec.specs.Laws.Keys.{wanted-true}
 use Rattle.lexicon_spec.specs.Adding.{storedWord, newEntry}
 use Rattle.lexicon_spec.specs.Lookup.{chosenEntry, onEntry, onRow, fromCompiled, find}
 
@@ -25,11 +25,7 @@ exact-stored word tag phones = (refl, refl)
 
 -- an exact entry matches only the word's own bytes
 pub exact-bytes : (any : Bool) (word : List ℕ) (tag : ℕ) (e : Entry) → isWanted true any word tag e ≡ true → (e .exact ≡ true) × (e .word ≡ word)
-unfolding isWanted
-exact-bytes any word tag e h =
-    let a = both-true (Bool·beq (e .exact) true && same (e .word) word) (agree any (e .tag) tag) h in
-    let b = both-true (Bool·beq (e .exact) true) (same (e .word) word) (a .0) in
-    (beq-true (e .exact) true (b .0), same-true (e .word) word (b .1))
+exact-bytes any word tag e h = let w = wanted-true true any word tag e h in (w .0, w .1)
 
 -- the oldest one that matches is preferred to an ordinary one of any age
 pub exact-preferred : (es : List Entry) (word : List ℕ) (tag : ℕ) (e : Entry) → first (isWanted true true word tag) es ≡ some e

@@ -207,7 +207,7 @@ impl Call for Lists {
     }
 
     fn show_written(&self, _input: &Input, outcome: &Outcome) -> String {
-        state::shown(&outcome.written.concat())
+        log::shown(&outcome.written.concat())
     }
 }
 

@@ -7,7 +7,7 @@ pub mod short;
 use crate::lexicon_shapes::Shape;
 use crate::lexicons::DAMAGE;
 use crate::prelude::*;
-pub use rule::{rule, Origin, EXACT};
+pub use rule::{rule, runtime_entries, Origin, EXACT};
 
 /// How many words tables serve, in every call, before others are made.
 pub const WORDS: usize = 40;

@@ -36,5 +36,6 @@ calls! {
     read_settings::ReadSettings
     write_setting::WriteSetting
     settings_kept::SettingsKept
+    either_order::EitherOrder
     lists::Lists
 }

@@ -26,7 +26,7 @@ pub struct SayWord {
 impl Call for SayWord {
     type Input = Input;
     const NAME: &'static str = "say_word";
-    const SHARE: usize = 54;
+    const SHARE: usize = 53;
     const SHARE_RECORDED: usize = 40;
     const ANSWERS: Rows = &["runtime", "runtime, exact", "addenda", "compiled", "letters"];
     const REFUSALS: &'static [u32] = &[1, 2, 3, 6, 7, 9];

@@ -1,6 +1,7 @@
 -- `add_entry` meets its contract: each return is decided by the first test of the definition that fails. Assumes nothing.
 use Rattle.lexicon_spec.specs.Adding.{mayAddAll, storedWord, newEntry}
 use Rattle.add_entry.specs.AddEntry.{addEntry, storeAfter}
+use Rattle.add_entry.specs.Accepted.{Passed}
 use Rattle.store_spec.specs.Adding.{entryFor, isFull, kept}
 use Rattle.store_spec.specs.Store.{isSound, count, withCount, largest}
 use Rattle.store_spec.specs.Sound.{sound}
@@ -13,7 +14,7 @@ use Rattle.slots_spec.specs.Slot.{Entry}
 use Rattle.answers.specs.Told.{refused, accepted}
 use borrow.Author.Tests.{not-true, not-false, le-ltb, lt-ltb, eq-eqb, ne-eqb}
 use lib.ListN.{length}
-use lib.Dec.{eqb, ltb}
+use lib.Dec.{eqb}
 use mathlib.Core.List.{List}
 use mathlib.Core.Bool.{Bool, true, false, _&&_}
 use mathlib.Core.Path.{_≡_, refl, sym, ap, _∙_}
@@ -21,15 +22,6 @@ use Prim.Native.Nat.{ℕ, _+_, _/_, _≤_}
 use borrow.Author.Needs.{needs}
 use Rattle.add_entry.proofs.add_entry.Statement.{statement}
 use Rattle.add_entry.proofs.add_entry.Tie as tie
-
--- what the tests before the store's room say where they pass
-record Passed (table store word tag phones : List ℕ) : Type 0 where
-  tabled : isPhoneTable table ≡ true
-  stored : isSound store ≡ true
-  rises : eqb (count store) largest ≡ false
-  texts : (isWord word && isWord tag && asciiPhones phones) ≡ true
-  known : mayAddAll table phones ≡ true
-  few : ltb 24 (length phones / 16) ≡ false
 
 module _ (table store word tag phones : List ℕ) (exact : Bool) (p : Passed table store word tag phones) where
   no-room : isFull store (newEntry word tag phones exact) ≡ true → (refused 8 0 ≡ addEntry table store word tag phones exact) × (kept store (newEntry word tag phones exact) ≡ storeAfter table store word tag phones exact)

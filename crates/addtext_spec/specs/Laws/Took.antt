@@ -2,12 +2,11 @@
 -- Assumes nothing.
 use Prim.Native.Nat.{ℕ, _+_, _-_, _≤_}
 use native.Mathlib.Omega.{arith}
-use mathlib.Core.Path.{_≡_, refl, ap, _∙_}
-use mathlib.Core.Bool.{Bool, true, false, not}
+use mathlib.Core.Path.{_≡_, ap, _∙_}
+use mathlib.Core.Bool.{Bool, true, false}
 use mathlib.Core.List.{List, [], _∷_, _++_}
 use lib.ListN.{length, length-append}
-use borrow.Author.Tests.{not-true}
-use Rattle.texts.specs.Choice.{bit, cases, both-true}
+use Rattle.texts.specs.Choice.{bit}
 use Rattle.texts.specs.Lists.{some, every}
 use Rattle.texts.specs.Text.{ascii}
 use Rattle.data.specs.Sections.{isPhoneTable}
@@ -16,22 +15,11 @@ use Rattle.store_spec.specs.Store.{used, entries, sameKey, keysDiffer}
 use Rattle.store_spec.specs.Adding.{without, adding}
 use Rattle.store_spec.specs.Sound.{Sound, entries-are}
 use Rattle.store_spec.specs.Result.{used-is}
-use Rattle.store_spec.specs.Laws.Keys.{keys-adding, without-none, none-same}
+use Rattle.store_spec.specs.Laws.Keys.{keys-adding, one-goes}
 use Rattle.answers.specs.Laws.Numbers.{refused-never}
 use Rattle.addtext_spec.specs.Line.{Line, skipped, faulty, entry, readLine, behindLine, outcome}
 use Rattle.addtext_spec.specs.Filling.{onward, filled, entriesOf, lineEntries, addingAll, replacing}
 use Rattle.addtext_spec.specs.Grown.{past, judged-as, all-added}
-
--- of entries whose keys differ at most one goes
-one-goes : (e : Entry) (es : List Entry) → keysDiffer es ≡ true → length (without e es) + bit (some (sameKey e) es) ≡ length es
-unfolding without some keysDiffer
-one-goes e [] d = refl
-one-goes e (x ∷ xs) d =
-    let t = both-true (not (some (sameKey x) xs)) (keysDiffer xs) d in
-    let ih = one-goes e xs (t .1) in
-    cases (sameKey e x)
-    (λ k. let n = none-same e x xs k (not-true (some (sameKey x) xs) (t .0)) in rw (k, without-none e xs n) (omega arith))
-    (λ k. rw k (omega (arith, ih)))
 
 -- entries added in turn: those that replace one make no more of them
 took : (new es : List Entry) → keysDiffer es ≡ true → length (addingAll new es) + replacing new es ≡ length es + length new

@@ -1,11 +1,14 @@
 -- The adding rule on lists of entries: keys that differ still differ, and what goes is the one entry of that key.
 -- Assumes nothing.
+use Prim.Native.Nat.{ℕ, _+_}
+use native.Mathlib.Omega.{arith}
 use mathlib.Core.Path.{_≡_, refl, sym, _∙_}
 use mathlib.Core.Bool.{Bool, true, false, not, _&&_, _||_, Bool·beq}
 use mathlib.Core.List.{List, [], _∷_, _++_}
 use lib.Dec.{eqb}
+use lib.ListN.{length}
 use borrow.Author.Tests.{eqb-true, eq-eqb, not-true}
-use Rattle.texts.specs.Choice.{both-true, cases, never, is-false}
+use Rattle.texts.specs.Choice.{bit, both-true, cases, never, is-false}
 use Rattle.texts.specs.Lists.{some}
 use Rattle.texts.specs.Text.{agree, same, same-true, same-refl}
 use Rattle.slots_spec.specs.Slot.{Entry}
@@ -17,7 +20,7 @@ either-false true b h = never true refl h
 either-false false b h = (refl, h)
 
 -- two answers that are equal
-pub beq-true : (a b : Bool) → Bool·beq a b ≡ true → a ≡ b
+beq-true : (a b : Bool) → Bool·beq a b ≡ true → a ≡ b
 beq-true true true h = refl
 beq-true true false h = never true refl (sym h)
 beq-true false true h = h
@@ -27,13 +30,21 @@ beq-refl : (a : Bool) → Bool·beq a a ≡ true
 beq-refl true = refl
 beq-refl false = refl
 
+-- what a wanted entry has
+pub wanted-true : (exact any : Bool) (word : List ℕ) (tag : ℕ) (e : Entry) → isWanted exact any word tag e ≡ true
+    → (e .exact ≡ exact) × (e .word ≡ word) × (agree any (e .tag) tag ≡ true)
+unfolding isWanted
+wanted-true exact any word tag e h =
+    let s = both-true (Bool·beq (e .exact) exact && same (e .word) word) (agree any (e .tag) tag) h in
+    let x = both-true (Bool·beq (e .exact) exact) (same (e .word) word) (s .0) in
+    (beq-true (e .exact) exact (x .0), same-true (e .word) word (x .1), s .1)
+
 -- entries of one key have one word and one tag, and are both exact or both not
 pub key-true : (a b : Entry) → sameKey a b ≡ true → (b .word ≡ a .word) × (b .tag ≡ a .tag) × (b .exact ≡ a .exact)
-unfolding sameKey isWanted agree
+unfolding sameKey agree
 key-true a b h =
-    let s = both-true (Bool·beq (b .exact) (a .exact) && same (b .word) (a .word)) (agree false (b .tag) (a .tag)) h in
-    let x = both-true (Bool·beq (b .exact) (a .exact)) (same (b .word) (a .word)) (s .0) in
-    (same-true (b .word) (a .word) (x .1), go (eqb (b .tag) (a .tag)) refl (s .1), beq-true (b .exact) (a .exact) (x .0))
+    let w = wanted-true (a .exact) false (a .word) (a .tag) b h in
+    (w .1, go (eqb (b .tag) (a .tag)) refl (w .2), w .0)
   where
     go : (t : Bool) → eqb (b .tag) (a .tag) ≡ t → agree false (b .tag) (a .tag) ≡ true → b .tag ≡ a .tag
     go true e h = eqb-true (b .tag) (a .tag) e
@@ -43,8 +54,12 @@ pub key-from : (a b : Entry) → b .word ≡ a .word → b .tag ≡ a .tag → b
 unfolding sameKey isWanted agree
 key-from a b w t x = rw (w, t, x, beq-refl (a .exact), same-refl (a .word), eq-eqb (a .tag) (a .tag) refl)
 
+-- two entries have one key, or have not, whichever is named first
+pub key-turn : (a b : Entry) → sameKey a b ≡ true → sameKey b a ≡ true
+key-turn a b h = let k = key-true a b h in key-from b a (sym (k .0)) (sym (k .1)) (sym (k .2))
+
 pub key-flip : (a b : Entry) → sameKey a b ≡ false → sameKey b a ≡ false
-key-flip a b h = is-false (sameKey b a) (λ e. let k = key-true b a e in never (sameKey a b) (key-from a b (sym (k .0)) (sym (k .1)) (sym (k .2))) h)
+key-flip a b h = is-false (sameKey b a) (λ e. never (sameKey a b) (key-turn b a e) h)
 
 -- two entries of a key have that key alike
 pub key-both : (a b c : Entry) → sameKey a b ≡ true → sameKey a c ≡ sameKey b c
@@ -108,3 +123,14 @@ without-one e s (x ∷ xs) ys h k d =
     let t = both-true (not (some (sameKey x) (xs ++ s ∷ ys))) (keysDiffer (xs ++ s ∷ ys)) d in
     let ih = without-one e s xs ys (a .1) k (t .1) in
     rw (a .0, ih)
+
+-- of entries whose keys differ at most one goes
+pub one-goes : (e : Entry) (es : List Entry) → keysDiffer es ≡ true → length (without e es) + bit (some (sameKey e) es) ≡ length es
+unfolding without some keysDiffer
+one-goes e [] d = refl
+one-goes e (x ∷ xs) d =
+    let t = both-true (not (some (sameKey x) xs)) (keysDiffer xs) d in
+    let ih = one-goes e xs (t .1) in
+    cases (sameKey e x)
+    (λ k. let n = none-same e x xs k (not-true (some (sameKey x) xs) (t .0)) in rw (k, without-none e xs n) (omega arith))
+    (λ k. rw k (omega (arith, ih)))

@@ -27,12 +27,12 @@ impl State {
     ) -> Result<(), String> {
         let outcome = side.outcome::<C>(act, input)?;
         self.calls += usize::from(act.is_some());
-        self.put("call", format!("{}: {}", self.calls, outcome.answer).as_bytes());
+        log::put(&mut self.log, "call", format!("{}: {}", self.calls, outcome.answer).as_bytes());
         let parts = C::default().lent(input);
         let written = parts.iter().filter(|part| part.is_written());
         for (part, bytes) in written.zip(outcome.written) {
             if bytes != part.bytes[..] {
-                self.put(part.name, &bytes);
+                log::put(&mut self.log, part.name, &bytes);
             }
             match part.name {
                 "the store" => self.store = bytes,
@@ -49,15 +49,10 @@ impl State {
         let (answer, phones) = side.close(self)?;
         let reading = sheets::reading(&self.sheet);
         let reading = reading.map_or("cannot be read".into(), |reading| told(&reading));
-        self.put("reads", reading.as_bytes());
-        self.put("phone_string", format!("{answer}, {}", notation::bytes(&phones)).as_bytes());
+        log::put(&mut self.log, "reads", reading.as_bytes());
+        let phones = format!("{answer}, {}", notation::bytes(&phones));
+        log::put(&mut self.log, "phone_string", phones.as_bytes());
         Ok(())
-    }
-
-    /// Logs something, behind its name and its length.
-    fn put(&mut self, name: &str, bytes: &[u8]) {
-        self.log.extend(format!("{name} {}\n", bytes.len()).bytes());
-        self.log.extend_from_slice(bytes);
     }
 }
 
@@ -74,22 +69,4 @@ fn told(reading: &Reading) -> String {
     let words: Vec<String> = reading.words.iter().map(word).collect();
     let (forwards, backwards) = (list(&reading.forwards), list(&reading.backwards));
     format!("{}; {forwards}; {backwards}", words.join(", "))
-}
-
-/// The log as lines.
-pub fn shown(log: &[u8]) -> String {
-    let (mut text, mut rest) = (String::new(), log);
-    while let Some(end) = rest.iter().position(|b| *b == b'\n') {
-        let head = String::from_utf8_lossy(&rest[..end]);
-        let (name, len) = head.rsplit_once(' ').expect("a length stands behind each name");
-        let (part, behind) = rest[end + 1..].split_at(len.parse().expect("it is a number"));
-        let shown = match name {
-            "the store" | "the spare" => notation::store(part),
-            "the sheet" => notation::sheet(part),
-            _ => String::from_utf8_lossy(part).into(),
-        };
-        text += &format!("\n      {name} {shown}");
-        rest = behind;
-    }
-    text
 }

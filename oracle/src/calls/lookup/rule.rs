@@ -37,22 +37,37 @@ fn fits(wanted: u8, tag: u8, ways: Rows) -> Option<&'static str> {
     }
 }
 
+/// The tag that is looked for.
+fn sought_tag(wanted: &Wanted) -> u8 {
+    wanted.tag.first().copied().unwrap_or(b'0')
+}
+
+/// The runtime entries of a word, on a sound store: the exact ones of the same bytes (02, S-8), then the ordinary ones. And
+/// which of them answers, if one does: the first whose tag fits.
+pub fn runtime_entries<'a>(
+    scene: &'a Scene,
+    wanted: &'a Wanted,
+) -> (Vec<&'a Entry>, Option<usize>) {
+    let (word, tag) = (&wanted.word, sought_tag(wanted));
+    let folded = word.to_ascii_lowercase();
+    let ordinary = scene.peers(Peers::Ordinary).filter(|entry| entry.word == folded);
+    let same: Vec<&Entry> = scene.peers(Peers::Exact(word)).chain(ordinary).collect();
+    let at = same.iter().position(|entry| fits(tag, entry.tag, WAYS[0]).is_some());
+    (same, at)
+}
+
 /// What the papers say before an answer's length matters. Tells what was met on the way.
 pub fn rule(scene: &Scene, wanted: &Wanted, met: &mut Met) -> Result<Option<Origin>, u32> {
     let (lexicon, word) = (&scene.lexicon, &wanted.word);
     met.refuse(1, !lexicon.has_form(), || None)?;
     met.sound(&scene.entries)?;
     met.refuse(3, wanted.is_refused(), || None)?;
-    let tag = wanted.tag.first().copied().unwrap_or(b'0');
+    let tag = sought_tag(wanted);
     let mut addenda = lexicon::probe::addenda().iter().filter(|row| row.1 == ascii(word));
     let addendum = addenda.find_map(|row| Some((fits(tag, row.0 as u8, WAYS[1])?, row.2)));
     let (has_addendum, search) = (addendum.is_some(), lexicon.search(word, tag));
     let sought = Sought { lexicon, word, tag, has_addendum, search };
-    let folded = word.to_ascii_lowercase();
-    // 02, S-8: exact ones of the same bytes, then the ordinary ones
-    let ordinary = scene.peers(Peers::Ordinary).filter(|entry| entry.word == folded);
-    let same: Vec<&Entry> = scene.peers(Peers::Exact(word)).chain(ordinary).collect();
-    let at = same.iter().position(|entry| fits(tag, entry.tag, WAYS[0]).is_some());
+    let (same, at) = runtime_entries(scene, wanted);
     let found = if let Some(at) = at {
         met.all(fits(tag, same[at].tag, WAYS[0]));
         met.all(runtime(&sought, &same, at));

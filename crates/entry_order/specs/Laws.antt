@@ -1,0 +1,3 @@
+-- Laws that only proofs use.
+pub mod OfWord
+pub mod Room
