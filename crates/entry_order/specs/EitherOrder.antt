@@ -33,12 +33,14 @@ module _ (one two : Given) (store : List ℕ)
       (λ q. rw (p, q)))
       (λ p. rw p)
 
+  -- lookup: the answer, and every byte of the output
   pub either-order : (phones index dat word tag out : List ℕ)
       → (lookup phones index dat oneFirst word tag out ≡ lookup phones index dat twoFirst word tag out)
       × (lookedUp phones index dat oneFirst word tag out ≡ lookedUp phones index dat twoFirst word tag out)
   unfolding afterAll
   either-order = any-order (one ∷ two ∷ []) (two ∷ one ∷ []) store alike oneThenTwo twoThenOne
 
+  -- say word: the answer, and every byte of the sheet
   pub either-order-said : (c : Sections) (sheet word tag : List ℕ)
       → (sayWord c oneFirst sheet word tag ≡ sayWord c twoFirst sheet word tag)
       × (sheetAfter c oneFirst sheet word tag ≡ sheetAfter c twoFirst sheet word tag)
