@@ -118,10 +118,14 @@ impl Call for EitherOrder {
 /// The verdict where 02 is broken.
 const DIFFER: &str = "differ, and must not";
 
+/// The verdict where one order refuses neither add and the other refuses one, which the library's proofs rule out.
+const ONE_ALONE: &str = "one order alone is accepted";
+
 /// What both orders are to each other, by their own answers.
 fn verdict(input: &Input, halves: &[Half; 2]) -> &'static str {
     let [one_first, two_first] = halves;
     match one_first.tells_the_same(two_first) {
+        _ if one_first.is_accepted() != two_first.is_accepted() => ONE_ALONE,
         _ if input.is_of_one_word() || !are_accepted(halves) => "may differ",
         true => "tell the same",
         false => DIFFER,

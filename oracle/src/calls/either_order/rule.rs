@@ -1,7 +1,7 @@
 //! What the original itself makes of both orders, and what they met.
 
 use super::run::{are_accepted, Half};
-use super::{verdict, Input, DIFFER};
+use super::{verdict, Input, DIFFER, ONE_ALONE};
 use crate::calls::lookup::runtime_entries;
 use crate::prelude::*;
 
@@ -29,7 +29,7 @@ fn keys(input: &Input) -> [Key; 2] {
 }
 
 /// The original that gets both ordinary adds itself must then have the store's ordinary entries. Where the folded words
-/// differ, its answers must not depend on the order either.
+/// differ, its answers must not depend on the order either. And by the papers both orders are accepted, or neither.
 pub fn agree_by_the_original(input: &Input, halves: &[Half; 2]) -> Result<(), String> {
     for (adds, half) in input.orders().into_iter().zip(halves) {
         let both_ordinary = !adds.iter().any(|add| add.exact);
@@ -38,9 +38,10 @@ pub fn agree_by_the_original(input: &Input, halves: &[Half; 2]) -> Result<(), St
             return Err("the original has other entries by both adds than by each".into());
         }
     }
-    match verdict(input, halves) == DIFFER {
-        true => Err("the original tells one order from the other".into()),
-        false => Ok(()),
+    match verdict(input, halves) {
+        DIFFER => Err("the original tells one order from the other".into()),
+        ONE_ALONE => Err("by the papers one order alone is accepted".into()),
+        _ => Ok(()),
     }
 }
 
