@@ -93,12 +93,14 @@ enum pronouncer_refusal {
     PRONOUNCER_RANGE = 17
 };
 
-/* Where pronouncer_lookup found a word. */
+/* Where pronouncer_lookup found a word, 0 to 3; and where a word on a sheet has its phones from, 1 to
+ * 4, which is byte 15 of its item. */
 enum pronouncer_source {
     PRONOUNCER_NONE = 0,
-    PRONOUNCER_RUNTIME = 1, /* in the store */
-    PRONOUNCER_ADDENDA = 2, /* in the library's own short table */
-    PRONOUNCER_COMPILED = 3 /* in the lexicon's sections */
+    PRONOUNCER_RUNTIME = 1,  /* in the store, be the entry exact or not */
+    PRONOUNCER_ADDENDA = 2,  /* in the library's own short table */
+    PRONOUNCER_COMPILED = 3, /* in the lexicon's sections */
+    PRONOUNCER_LETTERS = 4   /* nowhere: from the letter trees, which guess. Never of a lookup. */
 };
 
 /* The kind of a setting. */
@@ -339,7 +341,8 @@ struct pronouncer_answer pronouncer_new_sheet(uint8_t *sheet, size_t sheet_len);
 /* Says a word: puts it last on the sheet, with the phones that pronouncer_lookup finds or, where no
  * source has the word, those of pronouncer_predict. One last "0" or "1" comes off each phone, the
  * bare phones are cut as by pronouncer_syllabify, and a syllable's stress is the last digit that
- * came off in it, else "0".
+ * came off in it, else "0". Byte 15 of the word's item tells the source, an enum pronouncer_source
+ * from 1 to 4; later entries do not change it. A word with PRONOUNCER_LETTERS is worth a check.
  *
  * phones, index, data: lex.phones, lex.index, lex.data. sounds, starts, model: lts.phones,
  * lts.index, lts.model. store: a sound store. sheet: a sound sheet. word, tag.

@@ -16,17 +16,6 @@ pub enum Status {
     Refused,
 }
 
-impl Status {
-    /// The status of two parts.
-    pub fn and(self, other: Status) -> Status {
-        if self == Status::Done {
-            other
-        } else {
-            self
-        }
-    }
-}
-
 /// What ends a program early.
 #[derive(Debug)]
 pub enum Fault {

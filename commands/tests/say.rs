@@ -107,7 +107,7 @@ fn help_and_version() {
     let help = say(&["--help"]);
     assert_eq!((help.status, help.err.as_str()), (Some(0), ""));
     assert!(help.out.starts_with(
-        "say [--tables FOLDER] [--store STORE_FILE] [--entries FILE] .. [--plain] [--] [WORD ..]\n"
+        "say [--tables FOLDER] [--store STORE_FILE] [--entries FILE] .. [--plain] [--guessed] [--] [WORD ..]\n"
     ));
     assert_eq!(say(&["house", "--help"]), help);
     assert_eq!(say(&["--version"]), ended(0, "say 0.1.0\n", ""));
@@ -120,6 +120,7 @@ fn wrong_use_ends_with_2() {
         (&["--loud", "house"][..], "there is no option --loud"),
         (&["house", "-v"], "there is no option -v"),
         (&["--plain=yes", "house"], "--plain takes no value"),
+        (&["--guessed=yes", "house"], "--guessed takes no value"),
         (&["house", "--entries"], "--entries needs a value behind it"),
         (&["--tables", "a", "--tables=b", "house"], "--tables stands twice"),
     ] {
@@ -352,6 +353,115 @@ fn an_ending_that_is_not_found_is_not_called_found() {
         write its letters as words, or add an entry (--entries)\n";
     let arguments = ["--plain".into(), "--tables".into(), tables, "he'd".into()];
     assert_eq!(run(SAY, &arguments, ""), ended(0, out, err));
+}
+
+/// The last line of standard error with `--guessed`.
+fn counts(words: usize, guessed: usize, refused: usize) -> String {
+    format!("words: {words}, guessed: {guessed}, refused: {refused}\n")
+}
+
+const TEMPO: &str = "tempo (letters): 1 t eh m | 0 p ow\n";
+
+#[test]
+fn guessed_words_are_listed_alone() {
+    let words = ["house tempo", "to", "Iris", "xylophone", "lead/v", ",", "tempo#two", "tempo"];
+    let said = with_entries("guessed_words", NAMES, &[&["--guessed"][..], &words].concat());
+    let out = format!(
+        "{TEMPO}\
+        xylophone (letters): 1 z ay | 0 l ax | 1 f ow n\n\
+        tempo#two (letters): 1 t ow\n\
+        {TEMPO}"
+    );
+    let err = format!("entries: 2 taken\n{}{}", only_read("tempo#two", "two"), counts(9, 4, 0));
+    assert_eq!(said, ended(0, &out, &err));
+}
+
+#[test]
+fn where_none_is_guessed_none_is_listed() {
+    let words = ["--guessed", "house", "to", ",", "lead/n"];
+    assert_eq!(say(&words), ended(0, "", &counts(4, 0, 0)));
+    assert_eq!(say(&["--guessed", ""]), ended(0, "", &counts(0, 0, 0)));
+}
+
+#[test]
+fn guessed_words_are_warned_of() {
+    let err = "warning: \"go!\" is not in the lexicon, but \"go\" is: type that, or use --plain\n";
+    let err = format!("{err}{}", counts(2, 1, 0));
+    assert_eq!(say(&["go", "go!", "--guessed"]), ended(0, "go! (letters): 1 g aa\n", &err));
+}
+
+#[test]
+fn guessed_words_without_phones_end_with_1() {
+    let err = "warning: nothing in \"12\" gave a phone: write it as it is spoken, or add an entry for it (--entries)\n";
+    let err = format!("{err}{}", counts(3, 2, 0));
+    let out = format!("12 (letters): no phones\n{TEMPO}");
+    assert_eq!(say(&["--guessed", "house", "12", "tempo"]), ended(1, &out, &err));
+}
+
+#[test]
+fn refused_words_are_told_beside_guessed_ones() {
+    let err = format!("café {TEXT_REFUSED}zoé {TEXT_REFUSED}{}", counts(4, 1, 2));
+    assert_eq!(say(&["--guessed", "café", "tempo", "zoé", "house"]), ended(1, TEMPO, &err));
+    let err = format!("café {TEXT_REFUSED}{}", counts(1, 0, 1));
+    assert_eq!(say(&["--guessed", "café"]), ended(1, "", &err));
+}
+
+#[test]
+fn of_plain_words_those_that_were_asked_are_guessed_or_not() {
+    let words = ["--plain", "--guessed", "Cue,", "(Tempo's)", "Tempo", "tempo"];
+    let out = format!(
+        "(Tempo's) -> tempo (letters): 1 t eh m | 0 p ow\n\
+        Tempo -> tempo (letters): 1 t eh m | 0 p ow\n\
+        {TEMPO}"
+    );
+    assert_eq!(say(&words), ended(0, &out, &counts(5, 3, 0)));
+}
+
+#[test]
+fn guessed_words_of_input_are_listed_line_by_line() {
+    let mut child = command(SAY, &["--guessed"]).spawn().expect("it runs");
+    let mut input = child.stdin.take().expect("its input");
+    let mut answers = BufReader::new(child.stdout.take().expect("its output")).lines();
+    for word in ["Tempo", "TEMPO"] {
+        writeln!(input, "house {word} to").expect("it is read");
+        let answer = answers.next().expect("an answer").expect("a line");
+        assert_eq!(answer, format!("{word} (letters): 1 t eh m | 0 p ow"));
+    }
+    drop(input);
+    assert!(answers.next().is_none());
+    let ended = child.wait_with_output().expect("it ends");
+    assert_eq!(ended.status.code(), Some(0));
+    assert_eq!(String::from_utf8_lossy(&ended.stderr), counts(6, 2, 0));
+
+    assert_eq!(run(SAY, &["--guessed"], ""), ended_with_counts("", 0, 0));
+    assert_eq!(run(SAY, &["--guessed"], "house\n\nto tempo\n"), ended_with_counts(TEMPO, 3, 1));
+}
+
+/// All words were said, and some of them guessed.
+fn ended_with_counts(out: &str, words: usize, guessed: usize) -> Ended {
+    ended(0, out, &counts(words, guessed, 0))
+}
+
+#[test]
+fn what_ends_early_tells_no_counts() {
+    let mut say = command(SAY, &["--guessed", "tempo"]);
+    say.stdout(Stdio::from(File::create("/dev/full").expect("it is there")));
+    let err = "say: cannot write its output: No space left on device (os error 28)\n";
+    assert_eq!(run_command(say, ""), ended(1, "", err));
+
+    let err = "say: a line of standard input has 1048576 bytes or more; part it\n";
+    let input = [b"tempo\n".to_vec(), vec![b' '; 1 << 21]].concat();
+    assert_eq!(run(SAY, &["--guessed"], input), ended(1, TEMPO, err));
+}
+
+#[test]
+fn the_sheet_alone_tells_the_source() {
+    // What say_word is refused by comes before what a lookup is refused by: 1 before 3.
+    let tables = altered("the_sheet_alone", &[("lts.phones", b"\x01")]);
+    let arguments = ["--tables".into(), tables, "café".into()];
+    let err = "café is refused: 1, a section breaks its form. \
+        Run check_tables on the folder: it says which one and where.\n";
+    assert_eq!(run(SAY, &arguments, ""), ended(1, "", err));
 }
 
 #[test]

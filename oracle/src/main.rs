@@ -35,6 +35,7 @@ mod settings_shapes;
 mod sheet_edges;
 mod sheet_shapes;
 mod sheets;
+mod sources;
 mod spoken;
 mod store_edges;
 mod store_shapes;

@@ -5,13 +5,13 @@ use crate::records::{resized, with_byte};
 use crate::sheets::{Placed, LARGEST};
 use crate::spoken::{Syllable, Word};
 
-/// A word, and its syllables, each as its stress and its phones parted by blanks.
-pub fn word(text: &str, syllables: &[&str]) -> Word {
+/// A word of a source, and its syllables, each as its stress and its phones parted by blanks.
+pub fn word(text: &str, source: u8, syllables: &[&str]) -> Word {
     let syllable = |text: &&str| {
         let mut parts = text.split(' ').map(|part| part.as_bytes().to_vec());
         Syllable { stress: parts.next().unwrap_or_default()[0], phones: parts.collect() }
     };
-    Word { text: text.into(), syllables: syllables.iter().map(syllable).collect() }
+    Word { text: text.into(), source, syllables: syllables.iter().map(syllable).collect() }
 }
 
 /// Words in items that follow each other.
@@ -29,22 +29,22 @@ pub fn sheet(placed: &[Placed], behind: usize, fill: u8) -> Vec<u8> {
     sheets::write(&vec![fill; ITEM * (sheets::used(placed) + 1) + behind], placed)
 }
 
-/// Three words, one of them without phones, numbered from behind; two unused items and ten bytes more.
+/// Three words of three sources, one of them without phones, numbered from behind; two unused items and ten bytes more.
 pub fn good() -> Vec<u8> {
-    let extra = word("Extra", &["1 eh k", "0 s t r ax"]);
-    let placed = in_order(&[word("it's", &["1 ih t s"]), word(",", &[]), extra]);
+    let extra = word("Extra", 4, &["1 eh k", "0 s t r ax"]);
+    let placed = in_order(&[word("it's", 1, &["1 ih t s"]), word(",", 2, &[]), extra]);
     let from_behind = (1..=sheets::used(&placed)).rev();
     sheet(&sheets::renumbered(&placed, from_behind), 2 * ITEM + 10, 0xb7)
 }
 
 /// The smallest sheet with items of every kind.
 pub fn smallest() -> Vec<u8> {
-    sheet(&in_order(&[word("a", &["1 ey"])]), 0, 0)
+    sheet(&in_order(&[word("a", 3, &["1 ey"])]), 0, 0)
 }
 
 /// The good sheet with each of its bytes altered.
 pub fn altered_bytes() -> Vec<Vec<u8>> {
-    let values = [0, 1, 2, 3, 15, 16, 47, 48, 49, 50, 255];
+    let values = [0, 1, 2, 3, 4, 5, 15, 16, 47, 48, 49, 50, 255];
     records::altered(&good(), ITEM, 22, &values)
 }
 
@@ -73,18 +73,22 @@ pub fn flipped() -> Vec<Vec<u8>> {
     }
 }
 
-/// Every sheet of one word, and of two, with up to two syllables of up to two phones; in their order, from
-/// behind, and with each two neighbours swapped. Some have room behind them.
+/// Every sheet of one word, and of two, with up to two syllables of up to two phones, and of two words with every two
+/// sources; in their order, from behind, and with each two neighbours swapped. Some have room behind them.
 pub fn small() -> Vec<Vec<u8>> {
     let syllables: [&[&str]; 5] =
         [&[], &["0 k"], &["1 k t"], &["0 k", "1 t"], &["1 k t", "0 ae s"]];
     let mut words: Vec<Vec<Word>> = vec![vec![]];
-    for first in syllables {
-        words.push(vec![word("a", first)]);
+    for (first, source) in syllables.into_iter().zip((1..=4).cycle()) {
+        words.push(vec![word("a", source, first)]);
         for second in syllables {
-            words.push(vec![word("a", first), word("B", second)]);
+            words.push(vec![word("a", source, first), word("B", 4, second)]);
         }
     }
+    words.extend(each! {
+        for one in 1..=4;
+        (1..=4).map(|other| vec![word("a", one, &["1 k"]), word("B", other, &[])])
+    });
     let mut all = vec![];
     for (i, words) in words.iter().enumerate() {
         let placed = in_order(words);
@@ -113,24 +117,24 @@ pub fn limits() -> Vec<Vec<u8>> {
     all.extend([used + 63, used, used - 1, used - ITEM].map(|len| good[..len].to_vec()));
     // every item used, or all but a few
     for (words, more) in [(1_023, 0), (1_022, 64), (1_022, 63), (1_020, 255)] {
-        all.push(sheet(&in_order(&vec![word("", &[]); words]), more, 0x5a));
+        all.push(sheet(&in_order(&vec![word("", 2, &[]); words]), more, 0x5a));
     }
     let phones = "1 ae t s r k n l d z b";
     for words in [1_023 / 12, 1_000 / 12] {
-        let placed = in_order(&vec![word("long", &[phones]); words]);
+        let placed = in_order(&vec![word("long", 3, &[phones]); words]);
         all.push(sheet(&placed, LARGEST - ITEM * (12 * words + 1), 0));
     }
     // longest texts, empty ones, and bytes that no word of a text has
-    let longest = word(&"w".repeat(47), &["0 abcdefghijklmno", "1 pppppppppppp111"]);
-    let empty = word("", &["0  ", "1 "]);
-    let odd = word("a\0 :\x7f", &["1 zz ae1 \x7f\0", "0 pau"]);
+    let longest = word(&"w".repeat(47), 1, &["0 abcdefghijklmno", "1 pppppppppppp111"]);
+    let empty = word("", 3, &["0  ", "1 "]);
+    let odd = word("a\0 :\x7f", 4, &["1 zz ae1 \x7f\0", "0 pau"]);
     all.push(sheet(&in_order(&[longest, empty, odd]), 1_000, 0xff));
     all.extend(unsound());
     all
 }
 
 /// Changes to the sheet of `unsound`, parted by commas; a byte stands as item.field=value.
-const CHANGES: [&str; 11] = [
+const CHANGES: [&str; 12] = [
     // the phones in another order: forwards, backwards, and both ways
     "0.12=4 4.12=3 3.12=9, 0.10=9 9.10=8 8.10=4, 3.12=8 8.12=9 9.12=0 0.10=9 9.10=8 8.10=3",
     // a phone left out of both chains; a ring of phones
@@ -150,7 +154,9 @@ const CHANGES: [&str; 11] = [
     // circles
     "5.2=1, 7.2=6, 4.2=3, 3.2=3, 1.2=1",
     // kinds exchanged, with their fields
-    "1.0=2 1.1=48, 2.0=1 2.1=0, 3.0=2 3.1=48, 1.0=4",
+    "1.0=2 1.1=48 1.15=0, 2.0=1 2.1=0 2.15=1, 3.0=2 3.1=48, 1.0=4",
+    // a word's source in item 0, in its syllable and in its phone
+    "0.15=1 1.15=0, 1.15=0 2.15=1, 1.15=0 3.15=1",
     // parents of a neighbour
     "6.8=1 7.8=1, 9.8=7, 5.8=1",
 ];
@@ -159,7 +165,7 @@ const CHANGES: [&str; 11] = [
 fn unsound() -> Vec<Vec<u8>> {
     // items: 1 a, 2 its syllable, 3 and 4 its phones; 5 b, 6 and 7 its syllables with the phones
     // 8 behind 7 and 9 behind 6
-    let mut placed = in_order(&[word("a", &["1 k ae"]), word("b", &["0 t", "1 s"])]);
+    let mut placed = in_order(&[word("a", 1, &["1 k ae"]), word("b", 4, &["0 t", "1 s"])]);
     placed[1].items = vec![5, 6, 9, 7, 8];
     let good = sheet(&placed, 128, 0);
     let mut all = vec![good.clone()];
@@ -173,7 +179,7 @@ fn unsound() -> Vec<Vec<u8>> {
     }));
     // syllables that never had a phone: alone, before others and behind them
     for syllables in [&["1"][..], &["0", "1 k"], &["1 k", "0"]] {
-        let words = [word("a", syllables), word("b", &["1 s"])];
+        let words = [word("a", 2, syllables), word("b", 3, &["1 s"])];
         all.push(sheet(&in_order(&words[..1]), 128, 0));
         all.push(sheet(&in_order(&words), 128, 0));
     }
@@ -186,8 +192,13 @@ rows! { pub SHEET:
         let items = words.iter().flat_map(|placed| placed.items.iter().copied());
         let ordered = (1..).zip(items).all(|(at, item)| at == item);
         let unused = &sheet[sheets::unused(sheet)..];
+        let has = |source: u8| words.iter().any(|placed| placed.word.source == source);
     } [
         "sheet without words" => words.is_empty(),
+        "sheet with a runtime word" => has(1),
+        "sheet with an addenda word" => has(2),
+        "sheet with a compiled word" => has(3),
+        "sheet with a word by letters" => has(sources::LETTERS),
         "sheet in another order than its items" => !ordered,
         "sheet of 64 bytes" => sheet.len() == ITEM,
         "sheet of 65,536 bytes" => sheet.len() == LARGEST,

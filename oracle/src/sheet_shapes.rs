@@ -31,7 +31,8 @@ fn word(random: &mut Random, phones: &Phones) -> Word {
     };
     let count = random.weighted(&[2, 5, 3, 1, 1]);
     let text = words::accepted(random, &alphabet);
-    Word { text, syllables: (0..count).map(|_| syllable(random)).collect() }
+    let syllables = (0..count).map(|_| syllable(random)).collect();
+    Word { text, source: random.pick_byte(&[1, 2, 3, 4]), syllables }
 }
 
 /// A sound sheet with so many unused items, or as many as there is room for.
@@ -73,7 +74,7 @@ pub fn damaged(random: &mut Random, sheet: &[u8]) -> Vec<u8> {
         [random.below(used + 2), items, 256, 65_535][random.weighted(&[20, 1, 1, 1])]
     };
     let item = ITEM * random.between(usize::from(used > 0), used);
-    match random.below(17) {
+    match random.below(18) {
         0 => sheet.resize([0, ITEM - 1, LARGEST + 1, LARGEST + ITEM][random.below(4)], 0),
         1 => sheet.truncate(ITEM * random.between(0, used) + random.below(ITEM)),
         // a field of item 0, a link of any item, two links exchanged
@@ -86,9 +87,9 @@ pub fn damaged(random: &mut Random, sheet: &[u8]) -> Vec<u8> {
                 sheet.swap(item + at, other + at);
             }
         }
-        way @ 7..=13 => damage_item(random, &mut sheet[item..][..ITEM], way),
-        14 => return with_empty_syllable(random, &sheet),
-        15 if used + 1 < items => {
+        way @ 7..=14 => damage_item(random, &mut sheet[item..][..ITEM], way),
+        15 => return with_empty_syllable(random, &sheet),
+        16 if used + 1 < items => {
             let links = |item| [2, 4, 6, 8, 10, 12].map(|link| ITEM * item + link);
             // item 0's number of used items is no link
             let links = (0..=used + 1).flat_map(links).filter(|at| *at != 8).collect();
@@ -111,6 +112,7 @@ fn damage_item(random: &mut Random, item: &mut [u8], way: usize) {
         10 => item[random.between(17, 24)] |= 128,
         11 => item[random.between(14, ITEM - 1)] = random.byte(),
         12 => item[random.below(ITEM)] = random.byte(),
+        13 => item[15] = random.pick_byte(&[0, 1, 2, 3, 4, 5, 128, 255]),
         _ => {
             // a longer text, up to the limits of words and phones
             item[16] = random.pick_byte(&[15, 16, 47, 48]);

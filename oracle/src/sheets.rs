@@ -23,6 +23,7 @@ const PARENT: usize = 8;
 const BEFORE: usize = 10;
 const BEHIND: usize = 12;
 const LINKS_END: usize = 14;
+const SOURCE: usize = 15;
 const LEN: usize = 16;
 const TEXT: usize = 17;
 /// In item 0 the number of used items stands where others have their parent.
@@ -59,7 +60,8 @@ pub fn read(sheet: &[u8]) -> Result<Vec<Placed>, &'static str> {
             items.extend(&below);
             phones.extend(below);
         }
-        let word = Word { text: read_text(tree.items[at])?, syllables };
+        let (text, source) = (read_text(tree.items[at])?, tree.items[at][SOURCE]);
+        let word = Word { text, source, syllables };
         words.push(Placed { word, items });
     }
     of_all(&tree.seen)?;
@@ -105,7 +107,8 @@ checks! { pub UNSOUND:
     of_head(sheet: &[u8]) [
         "sheet: wrong length" => has_length(sheet.len()),
         "sheet: bytes beside item 0's fields" =>
-            zeros(&sheet[..FIRST]) && zeros(&sheet[LINKS_END..ITEM]),
+            zeros(&sheet[..FIRST]) && sheet[LINKS_END] == 0 && zeros(&sheet[LEN..ITEM]),
+        "sheet: source of item 0" => sheet[SOURCE] == 0,
         "sheet: more used than there are items" => unused(sheet) <= sheet.len(),
     ]
 
@@ -119,7 +122,7 @@ checks! { pub UNSOUND:
     of_child(item: &[u8], kind: u8, parent: usize) [
         "sheet: wrong kind" => item[0] == kind,
         "sheet: wrong parent" => number(&item[PARENT..]) == parent,
-        "sheet: bytes 14 and 15 of an item" => zeros(&item[LINKS_END..LEN]),
+        "sheet: byte 14 of an item" => item[LINKS_END] == 0,
     ]
 
     /// All children of an item; item 0 has no kind.
@@ -141,6 +144,9 @@ checks! { pub UNSOUND:
         "sheet: syllable with a text" => !syllable || zeros(&item[LEN..]),
         "sheet: stress that is neither 48 nor 49" => !syllable || matches!(item[STRESS], b'0' | b'1'),
         "sheet: stress of a word or a phone" => syllable || item[STRESS] == 0,
+        "sheet: word without a source" => !word || item[SOURCE] != 0,
+        "sheet: word of a source past the last" => !word || item[SOURCE] <= sources::LETTERS,
+        "sheet: source of a syllable or a phone" => word || item[SOURCE] == 0,
         "sheet: word over 47 bytes" => !word || len <= words::LONGEST,
         "sheet: phone over 15 bytes" => !phone || len < CELL,
         "sheet: text with a high byte" => item[TEXT..][..len].is_ascii(),
@@ -197,6 +203,7 @@ pub fn write(sheet: &[u8], placed: &[Placed]) -> Vec<u8> {
     sheet.item(0, 0, 0, b"");
     for Placed { word, items } in placed {
         sheet.item(items[0], WORD, 0, &word.text);
+        sheet.0[ITEM * items[0] + SOURCE] = word.source;
         let mut rest = &items[1..];
         let mut syllables = vec![];
         for Syllable { stress, phones } in &word.syllables {
@@ -321,7 +328,7 @@ pub fn reading(sheet: &[u8]) -> Option<Reading> {
             syllables.push(Syllable { stress: items[syllable][STRESS], phones: texts(&phones)? });
             met.extend(phones);
         }
-        words.push(Word { text: text(&word)?, syllables });
+        words.push(Word { text: text(&word)?, source: items[word][SOURCE], syllables });
     }
     met.sort();
     let is_phone = |at: &usize| items.get(*at).is_some_and(|item| item[0] == PHONE);

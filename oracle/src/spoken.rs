@@ -1,7 +1,8 @@
-//! What the original says: words with their tags go in, words with syllables, stress and phones come out.
+//! What the original says: words with their tags go in, words with their source, syllables, stress and phones come out.
 
 use crate::call::ask;
 use crate::scene::ascii;
+use crate::sources;
 use crate::words::Wanted;
 use original::cart::Cart;
 use original::data::Container;
@@ -10,10 +11,11 @@ use original::lexicon::{Lexicon, Lts};
 use original::pipeline::{self, probe};
 use original::utterance::{ItemId, Utterance};
 
-/// A word of an utterance: its text as given, and its syllables.
+/// A word of an utterance: its text as given, its source, which is 1 to 4 (02, S-6), and its syllables.
 #[derive(Clone, PartialEq, Eq)]
 pub struct Word {
     pub text: Vec<u8>,
+    pub source: u8,
     pub syllables: Vec<Syllable>,
 }
 
@@ -24,7 +26,7 @@ pub struct Syllable {
     pub phones: Vec<Vec<u8>>,
 }
 
-smaller!(Word: syllables, text);
+smaller!(Word: syllables, text, source by |source: &u8| (1..*source).collect::<Vec<u8>>());
 smaller!(Syllable: phones);
 
 impl Word {
@@ -58,7 +60,11 @@ pub fn say(lexicon: &Lexicon, lts: &Lts, wanted: &[Wanted]) -> Result<Said, Stri
         probe::say(&language, &mut utterance);
         utterance
     })?;
-    Ok(Said { words: read(&utterance)?, phone_string: ask(|| pipeline::phone_string(&utterance))? })
+    let mut words = read(&utterance)?;
+    for (word, wanted) in words.iter_mut().zip(wanted) {
+        word.source = sources::shown(lexicon, wanted)?;
+    }
+    Ok(Said { words, phone_string: ask(|| pipeline::phone_string(&utterance))? })
 }
 
 /// The original's phone string of any phones in a row.
@@ -74,8 +80,8 @@ pub fn phone_string(phones: &[&[u8]]) -> Result<String, String> {
     })
 }
 
-/// The words with what hangs below them. The chains of words, syllables and segments, forwards and backwards,
-/// must go the same way.
+/// The words with what hangs below them, before they get their sources. The chains of words, syllables and segments,
+/// forwards and backwards, must go the same way.
 fn read(utterance: &Utterance) -> Result<Vec<Word>, String> {
     let chain = |name: &str| -> Vec<ItemId> { utterance.iter_relation(name).collect() };
     let (mut syllables, mut segments) = (vec![], vec![]);
@@ -83,7 +89,7 @@ fn read(utterance: &Utterance) -> Result<Vec<Word>, String> {
     for word in chain("Word") {
         let tree = utterance.item_as(word, "SylStructure");
         let tree = tree.ok_or("the original leaves a word out of its tree")?;
-        let mut read = Word { text: utterance.name(word).into(), syllables: vec![] };
+        let mut read = Word { text: utterance.name(word).into(), source: 0, syllables: vec![] };
         for syllable in utterance.iter_from(utterance.daughter(tree)) {
             let phones: Vec<ItemId> = utterance.iter_from(utterance.daughter(syllable)).collect();
             let stress = match utterance.feature_str(syllable, "stress") {

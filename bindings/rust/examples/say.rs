@@ -1,4 +1,4 @@
-//! Says words with the example's tables, or with a folder of sections, and prints their syllables.
+//! Says words with the example's tables, or with a folder of sections, and prints their sources and syllables.
 //!
 //!     cargo run --features std --example say -- lead gobo
 //!     SECTIONS=folder cargo run --features std --example say -- lead gobo
@@ -39,7 +39,8 @@ fn say(lexicon: &Lexicon, letters: &Letters, words: &[String]) -> Result<(), Box
             let phones: Vec<&str> = syllable.phones().collect();
             format!("{} {}", phones.join(" "), syllable.stress())
         });
-        println!("{}: {}", word.text(), syllables.collect::<Vec<String>>().join(" - "));
+        let told = syllables.collect::<Vec<String>>().join(" - ");
+        println!("{} ({}): {told}", word.text(), word.source());
     }
     Ok(())
 }

@@ -14,6 +14,7 @@ const FIRST_CHILD: usize = 4;
 const PARENT: usize = 8;
 const USED: usize = 8;
 const NEXT_PHONE: usize = 12;
+pub const SOURCE: usize = 15;
 const TEXT_LENGTH: usize = 16;
 const TEXT: usize = 17;
 

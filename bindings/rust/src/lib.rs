@@ -88,7 +88,7 @@ pub use preview::Preview;
 pub use refusal::{Refusal, Refused};
 pub use sections::{Found, Letters, Lexicon, Predicted, Sayable, Source};
 pub use settings::{read_settings, write_setting, Setting, Settings};
-pub use sheet::{Phones, Said, Sheet, Syllable, Syllables, Word, Words};
+pub use sheet::{Phones, Said, Sheet, Syllable, Syllables, Word, WordSource, Words};
 pub use store::Store;
 #[cfg(feature = "std")]
 pub use tables::{read_section, Tables, TablesError, SECTION_NAMES};

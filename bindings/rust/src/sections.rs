@@ -37,7 +37,8 @@ pub struct Sayable<'a> {
     pub suffix: &'a [u8],
 }
 
-/// Where a pronunciation was found.
+/// Where a pronunciation was found. A word of a sheet has a [`WordSource`](crate::WordSource), since it may have been
+/// found nowhere.
 ///
 /// ```
 /// assert_eq!(pronouncer::Source::Runtime.to_string(), "runtime");
@@ -63,7 +64,7 @@ impl Source {
         }
     }
 
-    fn of_number(number: u32) -> Option<Source> {
+    pub(crate) fn of_number(number: u32) -> Option<Source> {
         match number {
             1 => Some(Source::Runtime),
             2 => Some(Source::Addenda),

@@ -2,10 +2,10 @@ use core::fmt;
 use core::iter::FusedIterator;
 
 use crate::foreign;
-use crate::items::{Chain, Items, PHONE, STRESS, SYLLABLE, WORD};
+use crate::items::{Chain, Items, PHONE, SOURCE, STRESS, SYLLABLE, WORD};
 use crate::phones::Stress;
 use crate::refusal::Refused;
-use crate::sections::{Letters, Lexicon};
+use crate::sections::{Letters, Lexicon, Source};
 use crate::store::Store;
 use crate::unsound;
 use crate::{PHONE_BYTES, WORD_BYTES};
@@ -58,7 +58,8 @@ impl<'a> Sheet<'a> {
     }
 
     /// Says a word: puts it last, with the phones that [`Lexicon::lookup`] finds, or else
-    /// [`Letters::predict`] tells, cut into syllables. [`Said::place`] tells where the letters stopped.
+    /// [`Letters::predict`] tells, cut into syllables. [`Said::place`] tells where the letters stopped, and
+    /// [`Word::source`] of the word where its phones came from.
     ///
     /// # Errors
     ///
@@ -187,9 +188,72 @@ impl<'s> Word<'s> {
         self.items.text(self.at, WORD_BYTES)
     }
 
+    /// Where its phones came from when it was said: entries that are added later change nothing here. (A byte
+    /// that is none, which no sound sheet has, is read as the letters, so that the word is checked.)
+    ///
+    /// ```
+    /// use pronouncer::{example, Sheet, Source, Store, WordSource};
+    ///
+    /// let (mut slots, mut items) = ([0; 512], [0; 64 * 64]);
+    /// let store = Store::new_store(&mut slots)?;
+    /// let mut sheet = Sheet::new_sheet(&mut items)?;
+    /// for word in ["lead", "to", "gobo"] {
+    ///     sheet.say_word(&example::LEXICON, &example::LETTERS, &store, word, "")?;
+    /// }
+    ///
+    /// let lead = sheet.words().next().expect("it was said");
+    /// assert_eq!(lead.source(), WordSource::Found(Source::Compiled));
+    ///
+    /// // Words to check before the show.
+    /// let guessed = sheet.words().filter(|word| word.source() == WordSource::Letters);
+    /// assert_eq!(guessed.map(|word| word.text()).collect::<Vec<&str>>(), ["gobo"]);
+    /// # Ok::<(), pronouncer::Refused>(())
+    /// ```
+    pub fn source(&self) -> WordSource {
+        let number = u32::from(self.items.byte(self.at, SOURCE));
+        Source::of_number(number).map_or(WordSource::Letters, WordSource::Found)
+    }
+
     /// Its syllables in order; none if it has no phones.
     pub fn syllables(&self) -> Syllables<'s> {
         Syllables(Chain::children(self.items, self.at, SYLLABLE))
+    }
+}
+
+/// Where the phones of a [`Word`] came from.
+///
+/// ```
+/// use pronouncer::{Source, WordSource};
+///
+/// assert_eq!(WordSource::Found(Source::Addenda).to_string(), "addenda");
+/// assert_eq!(WordSource::Letters.to_string(), "letters");
+/// ```
+#[derive(Debug, Clone, Copy, PartialEq, Eq, Hash)]
+#[non_exhaustive]
+pub enum WordSource {
+    /// From an entry, where [`Lexicon::lookup`] found it.
+    Found(Source),
+    /// From the letter trees: they are a guess.
+    Letters,
+}
+
+impl WordSource {
+    /// The library's number for it, the same in C and in the word's item.
+    pub fn number(self) -> u32 {
+        match self {
+            WordSource::Found(source) => source.number(),
+            WordSource::Letters => 4,
+        }
+    }
+}
+
+/// `runtime`, `addenda`, `compiled` or `letters`.
+impl fmt::Display for WordSource {
+    fn fmt(&self, f: &mut fmt::Formatter<'_>) -> fmt::Result {
+        match self {
+            WordSource::Found(source) => source.fmt(f),
+            WordSource::Letters => f.write_str("letters"),
+        }
     }
 }
 

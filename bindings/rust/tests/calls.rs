@@ -64,6 +64,13 @@ impl Show {
         told.map(|said| said.place()).map_err(|refused| refused.refusal)
     }
 
+    /// The sources of the words on the sheet.
+    fn sources(&mut self) -> String {
+        let sheet = Sheet::over(&mut self.items);
+        let told: Vec<String> = sheet.words().map(|word| word.source().to_string()).collect();
+        told.join(" ")
+    }
+
     /// What is on the sheet; the phone string and the chain of phones must tell the same phones.
     fn reads(&mut self) -> String {
         let sheet = Sheet::over(&mut self.items);
@@ -101,6 +108,7 @@ fn a_show() {
     // A word without phones has no syllables.
     assert_eq!(show.say(",", ""), Ok(0));
     assert_eq!(show.reads(), format!("{three} ,"));
+    assert_eq!(show.sources(), "compiled compiled letters addenda");
 }
 
 #[test]
@@ -121,12 +129,15 @@ fn entries_between_words() {
     assert_eq!(show.say(".", ""), Ok(0));
     assert_eq!(show.say(".", ""), Err(Refusal::Short));
     assert_eq!(show.reads(), format!("{before} LEAD[l ih d 0] ."));
+    // The library's own table has "," with another tag than v, and "." was asked without one.
+    assert_eq!(show.sources(), "compiled compiled letters letters runtime addenda");
 
     // A new sheet drops the words, not the entries.
     show.clear();
     assert_eq!(show.reads(), "");
     assert_eq!(show.say("lead", "n"), Ok(0));
     assert_eq!(show.reads(), "lead[l ih d 0]");
+    assert_eq!(show.sources(), "runtime");
 }
 
 #[test]
@@ -145,6 +156,7 @@ fn a_text_is_taken_whole_or_not_at_all() {
         assert_eq!(show.say(word, ""), Ok(0));
     }
     assert_eq!(show.reads(), "b[b 0] gobo[g ow 0][b ow 1] b[iy 1]");
+    assert_eq!(show.sources(), "letters runtime runtime");
 }
 
 #[test]
@@ -156,6 +168,7 @@ fn a_text_is_seen_before_it_is_taken() {
     assert_eq!(show.say("gobo", ""), Ok(0));
     let both = "gobo[g ow 1][b ow 1] gobo[g ow 1][b ow 0]";
     assert_eq!(show.reads(), both);
+    assert_eq!(show.sources(), "letters runtime");
 
     // A text that stops spoils the spare; a byte of 128 or more leaves it.
     assert_eq!(show.preview("b : iy1"), Ok((1, 1, 0)));
@@ -215,6 +228,7 @@ fn a_word_with_a_hash_before_and_behind_its_entry() {
     assert_eq!(show.say("a#latitude", ""), Err(Refusal::Short));
     assert_eq!(show.say("latitude#a", ""), Ok(9));
     assert_eq!(show.reads(), format!("{three} latitude#a[ae 1]"));
+    assert_eq!(show.sources(), "letters runtime letters letters");
 }
 
 #[test]

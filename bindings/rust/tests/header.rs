@@ -1,6 +1,6 @@
 //! The C header compiles alone, as C and as C++, and C programs link with the library: the example says its
-//! words, kinds that no Rust can hand over are refused, C adds exact entries, and is told where letters stopped and
-//! what a preview saw. Where there is no compiler these tests say so and pass.
+//! words, kinds that no Rust can hand over are refused, C adds exact entries, reads where words came from, and is told
+//! where letters stopped and what a preview saw. Where there is no compiler these tests say so and pass.
 
 use std::path::{Path, PathBuf};
 use std::process::{Command, Output};
@@ -87,4 +87,9 @@ fn places_where_letters_stopped() {
 #[test]
 fn previews() {
     ends_well("previews");
+}
+
+#[test]
+fn sources_of_words() {
+    ends_well("sources");
 }

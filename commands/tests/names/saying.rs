@@ -1,7 +1,7 @@
 //! say with a store.
 
 use crate::running::ended;
-use crate::shelves::{counted, slot, store, two, Shelf};
+use crate::shelves::{counted, exact, slot, store, two, Shelf, LARGEST};
 
 #[test]
 fn words_are_said_with_a_store() {
@@ -15,6 +15,17 @@ fn words_are_said_with_a_store() {
     assert_eq!(shelf.say(&[&words[..], &["--store=kept"]].concat()), ended(0, out, ""));
     shelf.holds(two());
     assert_eq!(shelf.names(), ["kept"]);
+}
+
+#[test]
+fn words_of_a_store_are_not_guessed() {
+    let slots = [slot(2, b'n', "tempo", "t"), exact(0, b'0', "Mel", "m eh1 l")];
+    let shelf = Shelf::with("say_guessed", store(LARGEST, 2, (1, 2), &slots));
+    let out = "Mel (runtime): 1 m eh l\n";
+    assert_eq!(shelf.say(&["--store=kept", "Mel"]), ended(0, out, ""));
+    let out = "mel (letters): 1 m eh l\ntempo/v (letters): 1 t eh m | 0 p ow\n";
+    let said = shelf.say(&["--store=kept", "--guessed", "Mel mel TEMPO/n tempo tempo/v"]);
+    assert_eq!(said, ended(0, out, "words: 5, guessed: 2, refused: 0\n"));
 }
 
 #[test]

@@ -1,4 +1,4 @@
-// A word put last on a sheet (01, Store and sheet). It comes as its text, its bare phones in cells, and a cut for each
+// A word put last on a sheet (01, Store and sheet). It comes as its text, its source, its bare phones in cells, and a cut for each
 // phone: the stress of the syllable that ends there, 0 where none ends.
 ghost use mathlib.Core.Path.{_≡_};
 ghost use mathlib.Core.Bool.{cond};
@@ -9,11 +9,11 @@ ghost use Rattle.texts.specs.Lists.{from};
 ghost use Rattle.records.specs.Records.{putRecord};
 ghost use Rattle.records.specs.Chain.{endOf};
 ghost use Rattle.cells.specs.Cells.{phonesOf};
-ghost use Rattle.items.specs.Item.{item as itemBytes};
+ghost use Rattle.items_spec.specs.Item.{item as itemBytes};
 ghost use Rattle.utterance_spec.specs.Tree.{syllablesAt};
 ghost use Rattle.utterance_spec.specs.Sheet.{at, used as usedOf, items};
 ghost use Rattle.utterance_spec.specs.Append.{headOr, sizeIn, numbered, phoneItems, wordItems, putItems, tied, appended};
-ghost use Rattle.utterance_spec.specs.Cuts.{grouped, Ended};
+ghost use Rattle.utterance_spec.specs.Cuts.{grouped, wordOf, Ended};
 ghost use Rattle.appending.specs.Laws.Grouped.{span};
 ghost use Rattle.appending.specs.Laws.Putting.{phoneItem, oneSyllable, syllablesFrom};
 
@@ -73,39 +73,6 @@ fn next_or(d: u16, n: u16, left: usize) -> u16
     if 0 < left { n } else { d }
 }
 
-// Item n, whole.
-fn put_item(
-    sheet: &mut [u8],
-    n: u16,
-    kind: u8,
-    stress: u8,
-    next: u16,
-    first: u16,
-    last: u16,
-    parent: u16,
-    prev: u16,
-    follow: u16,
-    text: &[u8],
-)
-    requires { ⌜ (n < items (now sheet)) × (length (now text) ≤ 47) ⌝ }
-    ensures { λ _. ⌜ now (sheet .exit) ≡ putRecord 64 (now (sheet .entry)) n (itemBytes (record { kind = kind; stress = stress; next = next; first = first; last = last; parent = parent; prev = prev; follow = follow; mark = 0; source = 0; text = now (text .entry) })) ⌝ }
-{
-    let mut b = [0u8; 64];
-    items::write(
-        &mut b,
-        kind,
-        stress,
-        next,
-        first,
-        last,
-        parent,
-        prev,
-        follow,
-        text,
-    );
-    records::copy_in(sheet, 64 * (n as usize), &b);
-}
-
 // Phone n of syllable y, behind phone q; left phones of the syllable stand behind it, and then phone a.
 fn put_phone(sheet: &mut [u8], n: u16, y: u16, q: u16, a: u16, left: usize, text: &[u8])
     requires { ⌜ (n < items (now sheet)) × (n < 1024) × (length (now text) ≤ 47) ⌝ }
@@ -113,7 +80,7 @@ fn put_phone(sheet: &mut [u8], n: u16, y: u16, q: u16, a: u16, left: usize, text
 {
     let next = next_or(0, n + 1, left);
     let follow = next_or(a, n + 1, left);
-    put_item(sheet, n, 3, 0, next, 0, 0, y, q, follow, text);
+    utterance::put_item(sheet, n, 3, 0, next, 0, 0, y, q, follow, 0, text);
 }
 
 // The phones i up to e as those of syllable y, from item y + 1 on; phone q stands before them, and phone a behind.
@@ -150,7 +117,7 @@ fn put_syllable(
     let left = cuts.len() - e;
     let next = next_or(0, end + 1, left);
     let a = next_or(0, end + 2, left);
-    put_item(
+    utterance::put_item(
         sheet,
         k,
         2,
@@ -159,6 +126,7 @@ fn put_syllable(
         k + 1,
         end,
         w,
+        0,
         0,
         0,
         &cuts[0..0],
@@ -184,13 +152,13 @@ fn put_syllables(sheet: &mut [u8], w: u16, q: u16, phones: &[u8], cuts: &[u8])
 }
 
 // A word from item n on; phone q stands before it.
-fn put_word(sheet: &mut [u8], n: u16, q: u16, word: &[u8], phones: &[u8], cuts: &[u8])
+fn put_word(sheet: &mut [u8], n: u16, q: u16, word: &[u8], source: u8, phones: &[u8], cuts: &[u8])
     requires { ⌜ (length (now word) ≤ 47) × (length (now cuts) ≡ length (now phones) / 16) × Ended (now cuts) × (n + sizeIn (grouped (now cuts) (phonesOf (now phones))) < items (now sheet)) × (length (now sheet) ≤ 65536) ⌝ }
-    ensures { λ _. ⌜ now (sheet .exit) ≡ putItems (now (sheet .entry)) n (wordItems n q (record { text = now (word .entry); syllables = grouped (now (cuts .entry)) (phonesOf (now (phones .entry))) })) ⌝ }
+    ensures { λ _. ⌜ now (sheet .exit) ≡ putItems (now (sheet .entry)) n (wordItems n q (wordOf (now (word .entry)) source (now (cuts .entry)) (phonesOf (now (phones .entry))))) ⌝ }
 {
     let first = next_or(0, n + 1, cuts.len());
     let last = last_syllable(phones, cuts, n + 1);
-    put_item(sheet, n, 1, 0, 0, first, last, 0, 0, 0, word);
+    utterance::put_item(sheet, n, 1, 0, 0, first, last, 0, 0, 0, source, word);
     put_syllables(sheet, n, q, phones, cuts);
 }
 
@@ -215,11 +183,11 @@ fn tie(sheet: &mut [u8], w: u16, q: u16, n: u16, a: u16, z: u16, u: u16)
 }
 
 // A word put last on a sheet that has room for it.
-pub fn append(sheet: &mut [u8], word: &[u8], phones: &[u8], cuts: &[u8])
+pub fn append(sheet: &mut [u8], word: &[u8], source: u8, phones: &[u8], cuts: &[u8])
     requires { ⌜ (length (now word) ≤ 47) × (length (now cuts) ≡ length (now phones) / 16) × Ended (now cuts) ⌝ }
     requires { ⌜ (length (now sheet) ≤ 65536) × (at (now sheet) 0 .last ≤ usedOf (now sheet)) × (at (now sheet) 0 .prev ≤ usedOf (now sheet)) ⌝ }
     requires { ⌜ usedOf (now sheet) + (1 + sizeIn (grouped (now cuts) (phonesOf (now phones)))) < items (now sheet) ⌝ }
-    ensures { λ _. ⌜ now (sheet .exit) ≡ appended (now (sheet .entry)) (record { text = now (word .entry); syllables = grouped (now (cuts .entry)) (phonesOf (now (phones .entry))) }) ⌝ }
+    ensures { λ _. ⌜ now (sheet .exit) ≡ appended (now (sheet .entry)) (wordOf (now (word .entry)) source (now (cuts .entry)) (phonesOf (now (phones .entry)))) ⌝ }
 {
     let w = utterance::last(sheet, 0);
     let q = utterance::prev(sheet, 0);
@@ -227,6 +195,6 @@ pub fn append(sheet: &mut [u8], word: &[u8], phones: &[u8], cuts: &[u8])
     let end = utterance::used(sheet) + size(phones, cuts) as u16;
     let a = next_or(0, n + 2, cuts.len());
     let z = next_or(q, end, cuts.len());
-    put_word(sheet, n, q, word, phones, cuts);
+    put_word(sheet, n, q, word, source, phones, cuts);
     tie(sheet, w, q, n, a, z, end);
 }

@@ -31,7 +31,7 @@ module _ (c : Sections) where
   -- the word that was said; one that is barred is refused, and puts nothing
   abbrev pub onSpoken : List ℕ → Spoken → List Word
   onSpoken word (barred n) = []
-  onSpoken word (phones source place ps) = said word ps ∷ []
+  onSpoken word (phones source place ps) = said word source ps ∷ []
 
   -- what an accepted call changes
   unfoldable pub accepts : Call → Book → Book

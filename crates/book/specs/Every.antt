@@ -4,25 +4,22 @@
 -- Assumes nothing.
 use Prim.Native.Nat.{ℕ, _+_, _≤_, _<_}
 use native.Mathlib.Omega.{arith}
-use mathlib.Core.Path.{_≡_, refl, sym, ap, _∙_, subst}
+use mathlib.Core.Path.{_≡_, refl, sym, ap, _∙_}
 use mathlib.Core.Bool.{Bool, true, false, _&&_}
 use mathlib.Core.Logic.{_≢_}
-use mathlib.Core.List.{List, [], _∷_, _++_, append-nil}
+use mathlib.Core.List.{List, [], _∷_, _++_}
 use mathlib.Core.Option.{Option, none, some}
 use lib.Dec.{eqb}
 use lib.ListN.{length}
-use borrow.Author.Tests.{eqb-true, eqb-false, leb-false}
-use Rattle.texts.specs.Choice.{if_then_else_, both-true, cases}
-use Rattle.texts.specs.Text.{isWord}
+use borrow.Author.Tests.{eqb-true, eqb-false}
+use Rattle.texts.specs.Choice.{if_then_else_, cases}
 use Rattle.slots_spec.specs.Slot.{Entry}
-use Rattle.store_spec.specs.Store.{entries, count, withCount, largest, isStoreLength, isSound as isStore}
+use Rattle.store_spec.specs.Store.{entries, count, withCount, largest, isStoreLength}
 use Rattle.new_store.specs.NewStore.{newStore, newBytes as newStoreBytes}
 use Rattle.store_spec.specs.Sound.{Sound as SoundStore}
 use Rattle.store_spec.specs.Adding.{adding}
 use Rattle.store_spec.specs.Laws.Counts.{counted, counted-length, counted-entries, counted-count}
 use Rattle.new_store.specs.Fresh.{fresh as freshStore, fresh-sound, fresh-entries, fresh-count}
-use Rattle.lts_spec.specs.Letters.{isTrees}
-use Rattle.compiled_spec.specs.Lexicon.{isLexicon}
 use Rattle.lexicon_spec.specs.Adding.{newEntry}
 use Rattle.add_entry.specs.AddEntry.{addEntry, storeAfter}
 use Rattle.add_entry.specs.Accepted.{add-law, accepted-is}
@@ -36,21 +33,15 @@ use Rattle.preview_entries.specs.Ends.{Ends, whole, stopped, unread, ends}
 use Rattle.accept_entries.specs.AcceptEntries.{acceptEntries, storeAfter as storeAccepted}
 use Rattle.accept_entries.specs.Accepted.{accept-law}
 use Rattle.utterance_spec.specs.Tree.{Word}
-use Rattle.utterance_spec.specs.Sheet.{used, items, reading, isSheetLength, isSound as isSheet}
+use Rattle.utterance_spec.specs.Sheet.{reading, isSheetLength}
 use Rattle.new_sheet.specs.NewSheet.{newSheet}
 use Rattle.utterance_spec.specs.Sound.{Sound}
-use Rattle.utterance_spec.specs.Append.{size}
-use Rattle.utterance_spec.specs.Appended.{append-law, append-reads}
 use Rattle.new_sheet.specs.Fresh.{new-sound, new-reads}
-use Rattle.answers.specs.declared.Answer.{Answer}
-use Rattle.pipeline_spec.specs.Pronounced.{Sections, Spoken, barred, phones, pronounced, said}
-use Rattle.pipeline_spec.specs.Placing.{isCrowded, onSpoken as onSpokenAnswer, withSpoken}
+use Rattle.pipeline_spec.specs.Pronounced.{Sections, phones, pronounced, said}
 use Rattle.say_word.specs.SayWord.{sayWord, sheetAfter}
+use Rattle.say_word.specs.Accepted.{say-law}
 use Rattle.book.specs.Calls.{Call, makeSheet, addsEntry, addsText, previewsText, acceptsText, saysWord, Made, State, answer, step, isRefused, leaves, fresh}
-use Rattle.book.specs.Book.{Book, empty, onSpoken, accepts, keeps, hears}
-use Rattle.pipeline_spec.specs.Laws.Sources.{entries-fit}
-use Rattle.pipeline_spec.specs.Laws.Fits.{pronounced-fits}
-use Rattle.book.specs.Laws.MayStand.{phones-said}
+use Rattle.book.specs.Book.{Book, empty, accepts, keeps, hears}
 use Rattle.book.specs.Laws.Counts.{Stand, begin, raised, shown, halted}
 use Rattle.book.specs.WellCut.{WellCut, said-cut}
 use Rattle.book.specs.Claim.{Each, Holds, Tells, holds, tells}
@@ -68,23 +59,6 @@ pub record Agrees (s : State) (k : Book) : Type 0 where
   pub sheet : Sound (s .sheet)
   pub words : reading (s .sheet) ≡ k .words
   pub cut : Each WellCut (k .words)
-
--- what the tests of say word say where it is accepted
-pub record Passed (c : Sections) (store sheet word tag : List ℕ) : Type 0 where
-  pub lexicon : isLexicon (c .lexPhones) (c .lexIndex) ≡ true
-  pub trees : isTrees (c .ltsPhones) (c .ltsIndex) (c .ltsModel) ≡ true
-  pub text : isWord word ≡ true
-  pub answer : sayWord c store sheet word tag ≡ onSpokenAnswer sheet word (pronounced c (entries store) word tag)
-
-passed : (c : Sections) (store sheet word tag : List ℕ) → sayWord c store sheet word tag .refusal ≡ 0 → Passed c store sheet word tag
-unfolding sayWord
-passed c store sheet word tag h =
-    cases (isLexicon (c .lexPhones) (c .lexIndex) && isTrees (c .ltsPhones) (c .ltsIndex) (c .ltsModel)) (λ t₁. cases (isStore store && isSheet sheet) (λ t₂. cases (isWord word && isWord tag)
-    (λ t₃. let l = both-true (isLexicon (c .lexPhones) (c .lexIndex)) (isTrees (c .ltsPhones) (c .ltsIndex) (c .ltsModel)) t₁ in
-    record { lexicon = l .0; trees = l .1; text = both-true (isWord word) (isWord tag) t₃ .0; answer = rw (t₁, t₂, t₃) })
-    (λ t₃. absurd (omega (arith, (rw (t₁, t₂, t₃) at h)))))
-    (λ t₂. absurd (omega (arith, (rw (t₁, t₂) at h)))))
-    (λ t₁. absurd (omega (arith, (rw t₁ at h))))
 
 -- a count that may rise, and is at most the largest
 below : (n : ℕ) → n ≤ largest → eqb n largest ≡ false → (n ≢ largest) × (n < largest)
@@ -228,43 +202,23 @@ module _ (c : Sections) (s : State) (k : Book) (a : Agrees s k) where
       (λ e. let z : storeAccepted (s .store) (s .spare) ≡ s .store = unfold storeAccepted in rw e in
       rw (e, z) a)
 
-  -- a word that was accepted, by what it came to
-  heard : (word tag : List ℕ) (p : Spoken) → pronounced c (entries (s .store)) word tag ≡ p → Passed c (s .store) (s .sheet) word tag
-      → onSpokenAnswer (s .sheet) word p .refusal ≡ 0
-      → Agrees (record { store = s .store; sheet = withSpoken (s .sheet) word p; spare = s .spare })
-      (record { entries = k .entries; words = k .words ++ onSpoken c word p; previewed = k .previewed })
-  heard word tag (barred n) e t h =
-      subst
-      (λ (ws : List Word). Agrees (record { store = s .store; sheet = s .sheet; spare = s .spare }) (record { entries = k .entries; words = ws; previewed = k .previewed }))
-      (sym (append-nil (k .words)))
-      (record { store = a .store; alike = a .alike; stand = a .stand; entries = a .entries; sheet = a .sheet; words = a .words; cut = a .cut })
-  heard word tag (phones source place ps) e t h =
-      cases (isCrowded (s .sheet) (said word ps))
-      (λ f. absurd (omega (arith, (rw f at h))))
-      (λ f. let p = pronounced-fits c (entries (s .store)) word tag (entries-fit (s .store) (a .store)) (t .lexicon) (t .trees) source place ps e in
-      let may = (phones-said word ps (t .text) p) in
-      let room = (leb-false (items (s .sheet)) (used (s .sheet) + size (said word ps)) f) in
-      record {
-        store = a .store;
-        alike = a .alike;
-        stand = a .stand;
-        entries = a .entries;
-        sheet = append-law (s .sheet) (said word ps) (a .sheet) may room .sound;
-        words = append-reads (s .sheet) (said word ps) (a .sheet) may room ∙ ap (λ (ws : List Word). ws ++ (said word ps ∷ [])) (a .words);
-        cut = each-last WellCut (k .words) (said word ps) (a .cut) (said-cut word ps);
-      })
-
   says : (word tag : List ℕ) (other : Option (List ℕ)) → After (saysWord word tag) other
   unfolding answer step accepts
   says word tag other =
       cases (eqb (sayWord c (s .store) (s .sheet) word tag .refusal) 0)
-      (λ e. let r = eqb-true (sayWord c (s .store) (s .sheet) word tag .refusal) 0 e in
-      let t = passed c (s .store) (s .sheet) word tag r in
-      let z : sheetAfter c (s .store) (s .sheet) word tag ≡ withSpoken (s .sheet) word (pronounced c (entries (s .store)) word tag) = unfold sheetAfter in rw e in
-      let y : pronounced c (entries (s .store)) word tag ≡ pronounced c (k .entries) word tag = ap (λ (es : List Entry). pronounced c es word tag) (a .entries) in
-      let g : Agrees (record { store = s .store; sheet = sheetAfter c (s .store) (s .sheet) word tag; spare = s .spare }) (accepts c (saysWord word tag) k) =
-      rw (z, sym y) (heard word tag (pronounced c (entries (s .store)) word tag) refl t (sym (ap (λ (x : Answer). x .refusal) (t .answer)) ∙ r)) in
-      rw e g)
+      (λ e. let t = say-law c (s .store) (s .sheet) word tag (eqb-true (sayWord c (s .store) (s .sheet) word tag .refusal) 0 e) in
+      let w = said word (t .source) (t .phones) in
+      let y : pronounced c (k .entries) word tag ≡ phones (t .source) (t .place) (t .phones) =
+      ap (λ (es : List Entry). pronounced c es word tag) (sym (a .entries)) ∙ t .came in
+      rw (e, y) (record {
+        store = a .store;
+        alike = a .alike;
+        stand = a .stand;
+        entries = a .entries;
+        sheet = t .sound;
+        words = t .reads ∙ ap (λ (ws : List Word). ws ++ (w ∷ [])) (a .words);
+        cut = each-last WellCut (k .words) w (a .cut) (said-cut word (t .source) (t .phones));
+      }))
       (λ e. let z : sheetAfter c (s .store) (s .sheet) word tag ≡ s .sheet = unfold sheetAfter in rw e in
       rw (e, z) a)
 

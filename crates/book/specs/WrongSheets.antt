@@ -11,7 +11,7 @@ use Rattle.records.specs.Fields.{u16At}
 use Rattle.records.specs.Records.{recordAt}
 use Rattle.records.specs.Chain.{All, Linked, chain}
 use Rattle.records.specs.Counted.{Within}
-use Rattle.items.specs.Item.{itemOf, isClean, isWordItem, isHeadItem, fits, isItem, isHead}
+use Rattle.items_spec.specs.Item.{itemOf, isClean, isSource, isWordItem, isHeadItem, fits, isItem, isHead}
 use Rattle.syllabify.specs.Syllables.{vowels}
 use Rattle.utterance_spec.specs.Tree.{Word, WordAt, wordsAt, phonesAt, itemsAt, sibling, follow, prev, places}
 use Rattle.utterance_spec.specs.Sheet.{at, used, reading, isSheetLength, after, beyond, isParent, isSibling, isFull, isChained, isPlaced, walks, order, isSound}
@@ -26,21 +26,22 @@ noWords first prev follow =
     ∷ 0 ∷ 0 ∷ 0 ∷ 0 ∷ 0 ∷ 0 ∷ 0 ∷ 0 ∷ 0 ∷ 0 ∷ 0 ∷ 0 ∷ 0 ∷ 0 ∷ 0 ∷ 0
     ∷ 0 ∷ 0 ∷ 0 ∷ 0 ∷ 0 ∷ 0 ∷ 0 ∷ 0 ∷ 0 ∷ 0 ∷ 0 ∷ 0 ∷ 0 ∷ 0 ∷ 0 ∷ 0 ∷ []
 
--- a sheet of one word, ",": in item 0 bytes 4 (first word), 6 (last word) and 8 (used); in item 1 bytes 64 (kind), 66 (next sibling), 80 (text length) and 81 (text)
+-- a sheet of one word, ",": in item 0 bytes 4 (first word), 6 (last word) and 8 (used); in item 1 bytes 64 (kind), 66 (next sibling),
+-- 79 (source, the addenda), 80 (text length) and 81 (text)
 abbrev pub oneWord : ℕ → List ℕ
 oneWord next =
     0 ∷ 0 ∷ 0 ∷ 0 ∷ 1 ∷ 0 ∷ 1 ∷ 0 ∷ 1 ∷ 0 ∷ 0 ∷ 0 ∷ 0 ∷ 0 ∷ 0 ∷ 0
     ∷ 0 ∷ 0 ∷ 0 ∷ 0 ∷ 0 ∷ 0 ∷ 0 ∷ 0 ∷ 0 ∷ 0 ∷ 0 ∷ 0 ∷ 0 ∷ 0 ∷ 0 ∷ 0
     ∷ 0 ∷ 0 ∷ 0 ∷ 0 ∷ 0 ∷ 0 ∷ 0 ∷ 0 ∷ 0 ∷ 0 ∷ 0 ∷ 0 ∷ 0 ∷ 0 ∷ 0 ∷ 0
     ∷ 0 ∷ 0 ∷ 0 ∷ 0 ∷ 0 ∷ 0 ∷ 0 ∷ 0 ∷ 0 ∷ 0 ∷ 0 ∷ 0 ∷ 0 ∷ 0 ∷ 0 ∷ 0
-    ∷ 1 ∷ 0 ∷ next ∷ 0 ∷ 0 ∷ 0 ∷ 0 ∷ 0 ∷ 0 ∷ 0 ∷ 0 ∷ 0 ∷ 0 ∷ 0 ∷ 0 ∷ 0
+    ∷ 1 ∷ 0 ∷ next ∷ 0 ∷ 0 ∷ 0 ∷ 0 ∷ 0 ∷ 0 ∷ 0 ∷ 0 ∷ 0 ∷ 0 ∷ 0 ∷ 0 ∷ 2
     ∷ 1 ∷ 44 ∷ 0 ∷ 0 ∷ 0 ∷ 0 ∷ 0 ∷ 0 ∷ 0 ∷ 0 ∷ 0 ∷ 0 ∷ 0 ∷ 0 ∷ 0 ∷ 0
     ∷ 0 ∷ 0 ∷ 0 ∷ 0 ∷ 0 ∷ 0 ∷ 0 ∷ 0 ∷ 0 ∷ 0 ∷ 0 ∷ 0 ∷ 0 ∷ 0 ∷ 0 ∷ 0
     ∷ 0 ∷ 0 ∷ 0 ∷ 0 ∷ 0 ∷ 0 ∷ 0 ∷ 0 ∷ 0 ∷ 0 ∷ 0 ∷ 0 ∷ 0 ∷ 0 ∷ 0 ∷ 0 ∷ []
 
 -- that word, as a book has it
 abbrev pub comma : Word
-comma = record { text = 44 ∷ []; syllables = [] }
+comma = record { text = 44 ∷ []; source = 2; syllables = [] }
 
 -- where no item is used, none is met
 none-met : (b : List ℕ) (ws : List WordAt) → used b ≡ 0 → All (Within (used b)) (itemsAt ws) → ws ≡ []
@@ -108,7 +109,7 @@ unfolding isSound isSheetLength isHead isHeadItem isClean isParent isChained wal
 no-words = tells (noWords 0 0 0) [] (sound (noWords 0 0 0) refl) refl tt
 
 pub one-word : Tells (oneWord 0) (comma ∷ [])
-unfolding isSound isSheetLength isHead isHeadItem isItem isWordItem isWord isClean isPlaced isParent isSibling isFull isChained walks order after beyond reading places chain sibling fits at itemOf recordAt u16At ascii low every is vowels
+unfolding isSound isSheetLength isHead isHeadItem isItem isSource isWordItem isWord isClean isPlaced isParent isSibling isFull isChained walks order after beyond reading places chain sibling fits at itemOf recordAt u16At ascii low every is vowels
 one-word =
     tells (oneWord 0) (comma ∷ []) (sound (oneWord 0) refl) refl
     (record { vowelled = λ p v. absurd (omega (arith, v)); vowelless = λ p v l. absurd (omega (arith, l)) }, tt)

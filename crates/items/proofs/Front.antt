@@ -7,7 +7,7 @@ use lib.ListN.{length, take, set, replicate, length-set, length-replicate}
 use lib.Seq.{paste, take-all, length-paste}
 use Rattle.records.specs.Fields.{put16}
 use Rattle.records.specs.Records.{front-byte, front-part}
-use Rattle.items.specs.Item.{Item, item, two}
+use Rattle.items_spec.specs.Item.{Item, item, two}
 
 -- the first k bytes of an item are p
 record Front (b p : List ℕ) (k : ℕ) : Type 0 where

@@ -6,7 +6,7 @@ ghost use lib.Dec.{eqb, leb};
 ghost use lib.ListN.{length};
 ghost use Rattle.texts.specs.Text.{ascii};
 ghost use Rattle.records.specs.Fields.{u16At};
-ghost use Rattle.items.specs.Item.{item as itemBytes, itemOf, isClean, isPlain, isWordItem, isSyllableItem, isPhoneItem, isHeadItem, fits, isItem, isHead};
+ghost use Rattle.items_spec.specs.Item.{item as itemBytes, itemOf, isClean, isSource, isWordItem, isSyllableItem, isPhoneItem, isHeadItem, fits, isItem, isHead};
 
 // An item into 64 bytes.
 pub fn write(
@@ -19,10 +19,11 @@ pub fn write(
     parent: u16,
     prev: u16,
     follow: u16,
+    source: u8,
     text: &[u8],
 )
     requires { ⌜ (length (now dst) ≡ 64) × (length (now text) ≤ 47) ⌝ }
-    ensures { λ _. ⌜ now (dst .exit) ≡ itemBytes (record { kind = kind; stress = stress; next = next; first = first; last = last; parent = parent; prev = prev; follow = follow; mark = 0; source = 0; text = now (text .entry) }) ⌝ }
+    ensures { λ _. ⌜ now (dst .exit) ≡ itemBytes (record { kind = kind; stress = stress; next = next; first = first; last = last; parent = parent; prev = prev; follow = follow; mark = 0; source = source; text = now (text .entry) }) ⌝ }
 {
     let n = text.len();
     dst[0] = kind;
@@ -34,7 +35,7 @@ pub fn write(
     records::put_u16(dst, 10, prev);
     records::put_u16(dst, 12, follow);
     dst[14] = 0;
-    dst[15] = 0;
+    dst[15] = source;
     dst[16] = n as u8;
     records::copy_in(dst, 17, text);
     records::clear(dst, 17 + n, 47 - n);
@@ -72,9 +73,9 @@ fn is_front(item: &[u8], kind: u8, stress: u8) -> bool
     )
 }
 
-// Whether the two bytes that are still to come are zero.
-fn is_plain(item: &[u8]) -> bool
-    ensures { λ r. ⌜ r ≡ isPlain (itemOf (now (item .entry))) ⌝ }
+// Whether an item has neither mark nor source.
+fn is_unmarked(item: &[u8]) -> bool
+    ensures { λ r. ⌜ r ≡ (eqb (itemOf (now (item .entry)) .mark) 0 && eqb (itemOf (now (item .entry)) .source) 0) ⌝ }
 {
     texts::both(
         records::byte_at(item, 14) == 0,
@@ -100,6 +101,16 @@ fn is_stress(b: u8) -> bool
     }
 }
 
+// Whether a byte names where a word came from.
+fn is_source(b: u8) -> bool
+    ensures { λ r. ⌜ r ≡ isSource b ⌝ }
+{
+    match b {
+        1..=4 => true,
+        _ => false,
+    }
+}
+
 // Whether a text may be that of a phone.
 fn is_phone(text: &[u8]) -> bool
     ensures { λ r. ⌜ r ≡ (leb (length (now (text .entry))) 15 && ascii (now (text .entry))) ⌝ }
@@ -115,8 +126,9 @@ fn is_word_item(item: &[u8]) -> bool
     ensures { λ r. ⌜ r ≡ isWordItem (itemOf (now (item .entry))) ⌝ }
 {
     let bare = texts::both(is_front(item, 1, 0), are_zero(item, 10, 12));
-    let plain = texts::both(bare, is_plain(item));
-    texts::both(plain, texts::is_word(text(item)))
+    let unmarked = texts::both(bare, records::byte_at(item, 14) == 0);
+    let sourced = texts::both(unmarked, is_source(records::byte_at(item, 15)));
+    texts::both(sourced, texts::is_word(text(item)))
 }
 
 fn is_syllable_item(item: &[u8]) -> bool
@@ -127,24 +139,24 @@ fn is_syllable_item(item: &[u8]) -> bool
         is_stress(records::byte_at(item, 1)),
     );
     let bare = texts::both(front, are_zero(item, 10, 12));
-    let plain = texts::both(bare, is_plain(item));
-    texts::both(plain, text(item).len() == 0)
+    let unmarked = texts::both(bare, is_unmarked(item));
+    texts::both(unmarked, text(item).len() == 0)
 }
 
 fn is_phone_item(item: &[u8]) -> bool
     ensures { λ r. ⌜ r ≡ isPhoneItem (itemOf (now (item .entry))) ⌝ }
 {
     let bare = texts::both(is_front(item, 3, 0), are_zero(item, 4, 6));
-    let plain = texts::both(bare, is_plain(item));
-    texts::both(plain, is_phone(text(item)))
+    let unmarked = texts::both(bare, is_unmarked(item));
+    texts::both(unmarked, is_phone(text(item)))
 }
 
 fn is_head_item(item: &[u8]) -> bool
     ensures { λ r. ⌜ r ≡ isHeadItem (itemOf (now (item .entry))) ⌝ }
 {
     let only = texts::both(is_front(item, 0, 0), records::u16_at(item, 2) == 0);
-    let plain = texts::both(only, is_plain(item));
-    texts::both(plain, text(item).len() == 0)
+    let unmarked = texts::both(only, is_unmarked(item));
+    texts::both(unmarked, text(item).len() == 0)
 }
 
 // Whether an item that stands behind item 0 may be one of its kind.

@@ -15,7 +15,7 @@ use Rattle.texts.specs.Text.{is}
 use Rattle.records.specs.Fields.{u16At}
 use Rattle.records.specs.Records.{recordAt, putRecord, length-putRecord, putRecord-same, putRecord-other}
 use Rattle.records.specs.Chain.{endOf}
-use Rattle.items.specs.Item.{Item, itemOf, isClean, isHeadItem, isHead}
+use Rattle.items_spec.specs.Item.{Item, itemOf, isClean, isHeadItem, isHead}
 use Rattle.utterance_spec.specs.Tree.{sibling, prev, follow}
 use Rattle.utterance_spec.specs.Sheet.{at, isSheetLength, reading}
 use Rattle.new_sheet.specs.NewSheet.{newHead, newSheet, newBytes}

@@ -9,21 +9,21 @@ ghost use Rattle.store_spec.specs.Store.{entries, isSound};
 ghost use Rattle.compiled_spec.specs.Lexicon.{isLexicon};
 ghost use Rattle.lts_spec.specs.Letters.{isTrees};
 ghost use Rattle.utterance_spec.specs.Sheet.{isSound as isSheet};
-ghost use Rattle.utterance_spec.specs.Append.{appended};
-ghost use Rattle.answers.specs.Told.{toldSaid, written};
+ghost use Rattle.answers.specs.Told.{toldSaid};
 ghost use Rattle.pipeline_spec.specs.Pronounced.{pronounced, said as saidOf, tables};
-ghost use Rattle.pipeline_spec.specs.Placing.{placed, onSpoken, sheetSpoken};
+ghost use Rattle.pipeline_spec.specs.Placing.{placed, sheetPlaced, onSpoken, sheetSpoken};
 use crate::Pronounced;
 use crate::cutting;
 use crate::pronouncing;
 use answers::Refusal;
 use answers::Said;
 
-// A pronounced word put last on a sound sheet, if there is room; place is where its letters stopped, and bare, marks and cuts
-// are rooms to work in.
+// A pronounced word put last on a sound sheet, if there is room, with its source; place is where its letters stopped, and
+// bare, marks and cuts are rooms to work in.
 fn put_cut(
     sheet: &mut [u8],
     word: &[u8],
+    source: u8,
     place: usize,
     phones: &[u8],
     bare: &mut [u8],
@@ -32,8 +32,8 @@ fn put_cut(
 ) -> Said
     requires { ⌜ (isSheet (now sheet) ≡ true) × (length (now word) ≤ 47) × (length (now phones) ≤ 1536) ⌝ }
     requires { ⌜ (length (now bare) ≡ 1536) × (length (now marks) ≡ 96) × (length (now cuts) ≡ 96) ⌝ }
-    ensures { λ r. ⌜ toldSaid r ≡ placed (now (sheet .entry)) place (saidOf (now (word .entry)) (phonesOf (now (phones .entry)))) ⌝ }
-    ensures { λ _. ⌜ now (sheet .exit) ≡ written (placed (now (sheet .entry)) place (saidOf (now (word .entry)) (phonesOf (now (phones .entry))))) (now (sheet .entry)) (appended (now (sheet .entry)) (saidOf (now (word .entry)) (phonesOf (now (phones .entry))))) ⌝ }
+    ensures { λ r. ⌜ toldSaid r ≡ placed (now (sheet .entry)) place (saidOf (now (word .entry)) source (phonesOf (now (phones .entry)))) ⌝ }
+    ensures { λ _. ⌜ now (sheet .exit) ≡ sheetPlaced (now (sheet .entry)) place (saidOf (now (word .entry)) source (phonesOf (now (phones .entry)))) ⌝ }
 {
     let n = phones.len() / 16;
     cutting::prepare(phones, bare, marks, cuts);
@@ -44,20 +44,29 @@ fn put_cut(
     if unused < size {
         return Said::Refused(Refusal::Short);
     }
-    appending::append(sheet, word, said, ends);
+    appending::append(sheet, word, source, said, ends);
     Said::Accepted(place)
 }
 
 // The same, with rooms of its own.
-fn put(sheet: &mut [u8], word: &[u8], place: usize, phones: &[u8]) -> Said
+fn put(sheet: &mut [u8], word: &[u8], source: u8, place: usize, phones: &[u8]) -> Said
     requires { ⌜ (isSheet (now sheet) ≡ true) × (length (now word) ≤ 47) × (length (now phones) ≤ 1536) ⌝ }
-    ensures { λ r. ⌜ toldSaid r ≡ placed (now (sheet .entry)) place (saidOf (now (word .entry)) (phonesOf (now (phones .entry)))) ⌝ }
-    ensures { λ _. ⌜ now (sheet .exit) ≡ written (placed (now (sheet .entry)) place (saidOf (now (word .entry)) (phonesOf (now (phones .entry))))) (now (sheet .entry)) (appended (now (sheet .entry)) (saidOf (now (word .entry)) (phonesOf (now (phones .entry))))) ⌝ }
+    ensures { λ r. ⌜ toldSaid r ≡ placed (now (sheet .entry)) place (saidOf (now (word .entry)) source (phonesOf (now (phones .entry)))) ⌝ }
+    ensures { λ _. ⌜ now (sheet .exit) ≡ sheetPlaced (now (sheet .entry)) place (saidOf (now (word .entry)) source (phonesOf (now (phones .entry)))) ⌝ }
 {
     let mut bare = [0u8; 1536];
     let mut marks = [0u8; 96];
     let mut cuts = [0u8; 96];
-    put_cut(sheet, word, place, phones, &mut bare, &mut marks, &mut cuts)
+    put_cut(
+        sheet,
+        word,
+        source,
+        place,
+        phones,
+        &mut bare,
+        &mut marks,
+        &mut cuts,
+    )
 }
 
 // A word pronounced and put last; room is for its phones.
@@ -97,8 +106,8 @@ pub fn say(
         room,
     ) {
         Pronounced::Refused(r) => Said::Refused(r),
-        Pronounced::Phones(n, place, _source) => {
-            put(sheet, word, place, records::head(room, 16 * n))
+        Pronounced::Phones(n, place, source) => {
+            put(sheet, word, source, place, records::head(room, 16 * n))
         }
     }
 }

@@ -6,3 +6,4 @@ pub mod Handed
 pub mod Outcome
 pub mod Sources
 pub mod Fits
+pub mod MayStand

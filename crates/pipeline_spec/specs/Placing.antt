@@ -20,15 +20,19 @@ isCrowded sheet w = leb (items sheet) (used sheet + size w)
 abbrev pub placed : List ℕ → ℕ → Word → Answer
 placed sheet place w = if isCrowded sheet w then refused 9 0 else acceptedWith 0 0 place 0
 
+-- the sheet at exit: as it was where the word is refused
+abbrev pub sheetPlaced : List ℕ → ℕ → Word → List ℕ
+sheetPlaced sheet place w = written (placed sheet place w) sheet (appended sheet w)
+
 -- the answer, and the sheet at exit, where only what the word comes to is left to decide
 module _ (sheet word : List ℕ) where
   abbrev pub onSpoken : Spoken → Answer
   onSpoken (barred n) = refused n 0
-  onSpoken (phones source place ps) = placed sheet place (said word ps)
+  onSpoken (phones source place ps) = placed sheet place (said word source ps)
 
   abbrev pub withSpoken : Spoken → List ℕ
   withSpoken (barred n) = sheet
-  withSpoken (phones source place ps) = appended sheet (said word ps)
+  withSpoken (phones source place ps) = appended sheet (said word source ps)
 
   -- the sheet at exit: as it was where the word is refused
   abbrev pub sheetSpoken : Spoken → List ℕ

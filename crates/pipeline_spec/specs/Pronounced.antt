@@ -35,7 +35,7 @@ pub data Spoken : Type 0 where
   barred : ℕ → Spoken
   phones : ℕ → ℕ → List (List ℕ) → Spoken
 
--- the letter trees are the fourth source
+-- the letter trees are the fourth source (02, S-6)
 abbrev pub onLetters : Option (List (List ℕ)) → ℕ → Spoken
 onLetters none place = barred 6
 onLetters (some ps) place = phones 4 place ps
@@ -59,6 +59,6 @@ lastStress d (p ∷ ps) = lastStress (if isStressed digits p then stress digits 
 unfoldable pub sung : List (List ℕ) → Syllable
 sung ps = record { stress = lastStress 48 ps; phones = map (bare digits) ps }
 
--- the word as given; its syllables end at syllabify's marks over the bare phones
-unfoldable pub said : List ℕ → List (List ℕ) → Word
-said word ps = record { text = word; syllables = map sung (syllables (marks onsets false (map (bare digits) ps)) ps) }
+-- the word as given, with its source (02, S-6); its syllables end at syllabify's marks over the bare phones
+unfoldable pub said : List ℕ → ℕ → List (List ℕ) → Word
+said word source ps = record { text = word; source = source; syllables = map sung (syllables (marks onsets false (map (bare digits) ps)) ps) }

@@ -1,7 +1,8 @@
-// The sheet (01, Store and sheet): items of 64 bytes, words with their syllables and phones; their fields and links.
+// The sheet (01, Store and sheet): items of 64 bytes, words with their syllables and phones; their fields and links, and an item written whole.
 mod fields;
 pub mod inside;
 mod links;
+mod writing;
 
 pub use fields::follow;
 pub use fields::is_sheet_length;
@@ -14,3 +15,4 @@ pub use links::after;
 pub use links::is_full;
 pub use links::is_parent;
 pub use links::is_sibling;
+pub use writing::put_item;

@@ -1,4 +1,5 @@
--- 01, Store and sheet: a word put last. Its items are numbered word, syllable, its phones, next syllable, and written whole; then the last word and the last phone are tied to it, and item 0 is patched.
+-- 01, Store and sheet, and 02, S-6: a word put last. Its items are numbered word, syllable, its phones, next syllable, and written whole;
+-- then the last word and the last phone are tied to it, and item 0 is patched.
 -- Assumes nothing.
 use Prim.Native.Nat.{ℕ, _+_, _*_}
 use mathlib.Core.Bool.{Bool, cond, _&&_, _||_}
@@ -10,7 +11,7 @@ use Rattle.texts.specs.Text.{isWord, isPhone}
 use Rattle.records.specs.Fields.{put16}
 use Rattle.records.specs.Records.{putRecord}
 use Rattle.records.specs.Chain.{endOf}
-use Rattle.items.specs.Item.{Item, item}
+use Rattle.items_spec.specs.Item.{Item, item, isSource}
 use Rattle.utterance_spec.specs.Tree.{Syllable, Word, SyllableAt, WordAt, syllablesAt, phonesIn}
 use Rattle.utterance_spec.specs.Sheet.{at, used}
 
@@ -54,8 +55,11 @@ syllableItems w q (s ∷ ss) (y ∷ ys) =
 -- the items of a word numbered from n on; phone q stands before it
 unfoldable pub wordItems : ℕ → ℕ → Word → List Item
 wordItems n q w =
-    record { kind = 1; stress = 0; next = 0; first = headOr 0 (syllablesAt (numbered (n + 1) (w .syllables))); last = endOf 0 (syllablesAt (numbered (n + 1) (w .syllables))); parent = 0; prev = 0; follow = 0; mark = 0; source = 0; text = w .text }
-    ∷ syllableItems n q (numbered (n + 1) (w .syllables)) (w .syllables)
+    let ss = numbered (n + 1) (w .syllables) in
+    let first = headOr 0 (syllablesAt ss) in
+    let last = endOf 0 (syllablesAt ss) in
+    record { kind = 1; stress = 0; next = 0; first = first; last = last; parent = 0; prev = 0; follow = 0; mark = 0; source = w .source; text = w .text }
+    ∷ syllableItems n q ss (w .syllables)
 
 -- whole items, one after another from item k on
 unfoldable pub putItems : List ℕ → ℕ → List Item → List ℕ
@@ -84,4 +88,4 @@ unfoldable pub isSyllable : Syllable → Bool
 isSyllable y = (eqb (y .stress) 48 || eqb (y .stress) 49) && leb 1 (length (y .phones)) && every isPhone (y .phones)
 
 unfoldable pub isSaid : Word → Bool
-isSaid w = isWord (w .text) && every isSyllable (w .syllables)
+isSaid w = isWord (w .text) && isSource (w .source) && every isSyllable (w .syllables)

@@ -14,7 +14,7 @@ use Rattle.texts.specs.Lists.{from, length-from}
 use Rattle.records.specs.Fields.{put16}
 use Rattle.records.specs.Records.{recordAt}
 use Rattle.records.specs.Chain.{All, endOf, all-map, all-append, all-end}
-use Rattle.items.specs.Item.{Item, isItem}
+use Rattle.items_spec.specs.Item.{Item, isItem}
 use Rattle.utterance_spec.specs.Tree.{Word, WordAt, wordsAt, phonesIn, phonesAt, itemsAt, wordAt}
 use Rattle.utterance_spec.specs.Sheet.{at, used, items, isSheetLength, reading}
 use Rattle.utterance_spec.specs.Sound.{Placed, Sound}
@@ -145,7 +145,7 @@ module _ (b : List ℕ) (w : Word) (s : Sound b) (may : isSaid w ≡ true) (room
         all = ap (λ (l : List ℕ). length l) its ∙ length-append (itemsAt ws) (from n (size w)) ∙ rw (s .all, length-from n (size w)) (sym used-c);
         once = grown-once (at b) (at c) n (used b + size w) w g real ws (s .tree) each (s .once);
         each = placed;
-        full = grown-full (at b) (at c) n (used b + size w) w g real ws (s .tree) each (s .full) (said-filled (w .syllables) (said-parts w may .1));
+        full = grown-full (at b) (at c) n (used b + size w) w g real ws (s .tree) each (s .full) (said-filled (w .syllables) (said-parts w may .2));
         onwards = grown-onwards (at b) (at c) n (used b + size w) w g real ws (s .tree) each (s .backwards) (s .onwards);
         backwards = grown-backwards (at b) (at c) n (used b + size w) w g real ws (s .tree) each (s .backwards);
       }

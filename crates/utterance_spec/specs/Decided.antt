@@ -14,7 +14,8 @@ use Rattle.texts.specs.Lists.{every}
 use Rattle.texts.specs.Text.{ascii}
 use Rattle.records.specs.Records.{recordAt}
 use Rattle.records.specs.Chain.{All, Linked, chain, chain-more, chain-linked, distinct, all-map}
-use Rattle.items.specs.Item.{Item, itemOf, isClean, isPlain, isPhoneItem, isHeadItem, fits, isItem, isHead}
+use Rattle.items_spec.specs.Item.{Item, itemOf, isClean, isPhoneItem, isHeadItem, fits, isItem, isHead}
+use Rattle.items_spec.specs.Laws.Fields.{phone-fields, head-fields}
 use Rattle.utterance_spec.specs.Tree.{WordAt, itemsAt, Tree}
 use Rattle.utterance_spec.specs.Sheet.{at, used, items, isSheetLength, after, isParent, isSibling, isFull, isChained, isPlaced, walks, order, isSound}
 use Rattle.utterance_spec.specs.Sound.{Placed, Sound}
@@ -24,35 +25,22 @@ use Rattle.utterance_spec.specs.Laws.Chained.{chained, is-chained, full,
 
 -- a phone has no children
 phone-leaf : (i : Item) → fits i ≡ true → i .kind ≡ 3 → (i .first ≡ 0) × (i .last ≡ 0)
-unfolding fits isPhoneItem
+unfolding fits
 phone-leaf i h k =
-    let w : i .kind ≢ 1 = omega arith in
-    let y : i .kind ≢ 2 = omega arith in
-    let e : fits i ≡ isPhoneItem i = rw (ne-eqb (i .kind) 1 w, ne-eqb (i .kind) 2 y) in
-    let a = both-true (eqb (i .kind) 3 && eqb (i .stress) 0 && eqb (i .first) 0 && eqb (i .last) 0 && isPlain i && leb (length (i .text)) 15) (ascii (i .text)) (sym e ∙ h) in
-    let t = both-true (eqb (i .kind) 3 && eqb (i .stress) 0 && eqb (i .first) 0 && eqb (i .last) 0 && isPlain i) (leb (length (i .text)) 15) (a .0) in
-    let p = both-true (eqb (i .kind) 3 && eqb (i .stress) 0 && eqb (i .first) 0 && eqb (i .last) 0) (isPlain i) (t .0) in
-    let l = both-true (eqb (i .kind) 3 && eqb (i .stress) 0 && eqb (i .first) 0) (eqb (i .last) 0) (p .0) in
-    let f = both-true (eqb (i .kind) 3 && eqb (i .stress) 0) (eqb (i .first) 0) (l .0) in
-    (eqb-true (i .first) 0 (f .1), eqb-true (i .last) 0 (l .1))
+    let e : fits i ≡ isPhoneItem i = rw (ne-eqb (i .kind) 1 (omega arith), ne-eqb (i .kind) 2 (omega arith)) in
+    let f = phone-fields i (sym e ∙ h) in
+    (f .first, f .last)
 
 pub leaf : (b : List ℕ) (n : ℕ) → isItem (recordAt 64 b n) ≡ true → Leaf (at b) n
 unfolding isItem at
 leaf b n h = phone-leaf (itemOf (recordAt 64 b n)) (both-true (isClean (recordAt 64 b n)) (fits (itemOf (recordAt 64 b n))) h .1)
 
 -- item 0 is of no kind, and has no sibling
-head-top : (i : Item) → isHeadItem i ≡ true → (i .kind ≡ 0) × (i .next ≡ 0)
-unfolding isHeadItem
-head-top i h =
-    let a = both-true (eqb (i .kind) 0 && eqb (i .stress) 0 && eqb (i .next) 0 && isPlain i) (eqb (length (i .text)) 0) h in
-    let p = both-true (eqb (i .kind) 0 && eqb (i .stress) 0 && eqb (i .next) 0) (isPlain i) (a .0) in
-    let n = both-true (eqb (i .kind) 0 && eqb (i .stress) 0) (eqb (i .next) 0) (p .0) in
-    let k = both-true (eqb (i .kind) 0) (eqb (i .stress) 0) (n .0) in
-    (eqb-true (i .kind) 0 (k .0), eqb-true (i .next) 0 (n .1))
-
 pub top : (b : List ℕ) → isHead (recordAt 64 b 0) ≡ true → (at b 0 .kind ≡ 0) × (at b 0 .next ≡ 0)
 unfolding isHead at
-top b h = head-top (itemOf (recordAt 64 b 0)) (both-true (isClean (recordAt 64 b 0)) (isHeadItem (itemOf (recordAt 64 b 0))) h .1)
+top b h =
+    let f = head-fields (itemOf (recordAt 64 b 0)) (both-true (isClean (recordAt 64 b 0)) (isHeadItem (itemOf (recordAt 64 b 0))) h .1) in
+    (f .kind, f .next)
 
 -- what the test of one item of the walk says
 pub placed : (b : List ℕ) (n : ℕ) → isPlaced b n ≡ true → Placed b n × Good (at b) n

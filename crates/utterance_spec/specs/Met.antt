@@ -11,7 +11,7 @@ use Rattle.texts.specs.Choice.{cases}
 use Rattle.texts.specs.Lists.{some as any}
 use Rattle.records.specs.Chain.{Distinct, all-map, distinct}
 use Rattle.records.specs.Counted.{Within, all-met}
-use Rattle.items.specs.Item.{Item}
+use Rattle.items_spec.specs.Item.{Item}
 use Rattle.utterance_spec.specs.Tree.{phonesAt, itemsAt, follow}
 use Rattle.utterance_spec.specs.Sheet.{at, used}
 use Rattle.utterance_spec.specs.Sound.{Placed, Sound}

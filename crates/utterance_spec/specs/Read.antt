@@ -6,7 +6,7 @@ use mathlib.Core.Path.{_≡_, refl, ap}
 use mathlib.Core.List.{List, [], _∷_, map, reverse}
 use lib.ListN.{length, length-append, length-reverse}
 use Rattle.records.specs.Chain.{chain, chain-linked}
-use Rattle.items.specs.Item.{Item}
+use Rattle.items_spec.specs.Item.{Item}
 use Rattle.utterance_spec.specs.Tree.{SyllableAt, WordAt, syllablesAt, wordsAt, phonesIn, phonesAt, itemsIn, itemsAt, sibling, prev, follow, Syllables, Words, Tree, childrenOf, syllableFrom, wordFrom, places, wordAt}
 use Rattle.utterance_spec.specs.Sheet.{at, used, reading}
 use Rattle.utterance_spec.specs.Sound.{Sound}

@@ -9,7 +9,7 @@ use Rattle.texts.specs.Choice.{if_then_else_}
 use Rattle.texts.specs.Lists.{every}
 use Rattle.records.specs.Records.{recordAt}
 use Rattle.records.specs.Chain.{chain}
-use Rattle.items.specs.Item.{Item, itemOf, isItem, isHead}
+use Rattle.items_spec.specs.Item.{Item, itemOf, isItem, isHead}
 use Rattle.utterance_spec.specs.Tree.{Word, places, wordAt}
 
 -- item n

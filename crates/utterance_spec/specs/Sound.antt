@@ -8,7 +8,7 @@ use mathlib.Core.List.{List, reverse}
 use lib.ListN.{length}
 use Rattle.records.specs.Records.{recordAt}
 use Rattle.records.specs.Chain.{All, Distinct, Linked}
-use Rattle.items.specs.Item.{isItem, isHead}
+use Rattle.items_spec.specs.Item.{isItem, isHead}
 use Rattle.utterance_spec.specs.Tree.{WordAt, phonesAt, itemsAt, Full, Tree, prev, follow}
 use Rattle.utterance_spec.specs.Sheet.{at, used, items, isSheetLength}
 

@@ -11,8 +11,8 @@ use borrow.Author.Tests.{leb-true, le-leb}
 use Rattle.texts.specs.Choice.{both-true}
 use Rattle.records.specs.Records.{recordAt, length-recordAt}
 use Rattle.records.specs.Chain.{All, all-map}
-use Rattle.items.specs.SoundItem.{SoundItem, SoundHead}
-use Rattle.items.specs.Decided.{item-sound, head-sound}
+use Rattle.items_spec.specs.SoundItem.{SoundItem, SoundHead}
+use Rattle.items_spec.specs.Decided.{item-sound, head-sound}
 use Rattle.utterance_spec.specs.Tree.{itemsAt}
 use Rattle.utterance_spec.specs.Sheet.{used, isSheetLength}
 use Rattle.utterance_spec.specs.Sound.{Placed, Sound}

@@ -1,4 +1,5 @@
--- 01, Store and sheet: the words of a sheet, their syllables and phones: what they say, which items they are, and how these are linked. `S` gives each item.
+-- 01, Store and sheet, and 02, S-6: the words of a sheet, their syllables and phones: what they say, which items they are, and how these are
+-- linked. `S` gives each item.
 -- Assumes nothing.
 use Prim.Native.Nat.{ℕ, _+_, _≤_}
 use mathlib.Core.Path.{_≡_}
@@ -7,15 +8,16 @@ use lib.Dec.{eqb}
 use lib.ListN.{length}
 use Rattle.texts.specs.Choice.{if_then_else_}
 use Rattle.records.specs.Chain.{All, Linked, chain, endOf}
-use Rattle.items.specs.Item.{Item}
+use Rattle.items_spec.specs.Item.{Item}
 
--- what is read: a word with its syllables, each with its stress and its phones
+-- what is read: a word with its source and its syllables, each with its stress and its phones
 pub record Syllable : Type 0 where
   pub stress : ℕ
   pub phones : List (List ℕ)
 
 pub record Word : Type 0 where
   pub text : List ℕ
+  pub source : ℕ
   pub syllables : List Syllable
 
 -- the items it is read from
@@ -115,4 +117,4 @@ module _ (S : ℕ → Item) where
   syllableAt y = record { stress = S (y .at) .stress; phones = map textAt (y .phones) }
 
   abbrev pub wordAt : WordAt → Word
-  wordAt w = record { text = textAt (w .at); syllables = map syllableAt (w .syllables) }
+  wordAt w = record { text = textAt (w .at); source = S (w .at) .source; syllables = map syllableAt (w .syllables) }

@@ -65,8 +65,7 @@ impl Call for Lookup {
         let Input { scene, wanted, room } = input;
         let found = rule(scene, wanted, met)?;
         let row = found.as_ref().map_or("none", |origin| origin.row);
-        let source = row.strip_suffix(", exact").unwrap_or(row);
-        let kind = Self::ANSWERS.iter().position(|answer| *answer == source).unwrap_or(0) as u32;
+        let kind = found.as_ref().map_or(0, Origin::source).into();
         let found = found.map(|origin| cells(&origin.phones));
         for pos in ways(&wanted.tag) {
             let word = ascii(&wanted.word);

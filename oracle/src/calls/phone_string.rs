@@ -35,7 +35,7 @@ impl Call for PhoneString {
         let full = each! {
             for phone in ["", "x", "abcdefghijklmno"];
             let syllable = format!("0{}", format!(" {phone}").repeat(sheets::LARGEST / ITEM - 3));
-            let placed = sheet_edges::in_order(&[sheet_edges::word("w", &[&syllable])]);
+            let placed = sheet_edges::in_order(&[sheet_edges::word("w", 1, &[&syllable])]);
             [Size::Exact, Size::Short(1)].map(|size| input(&sheet_edges::sheet(&placed, 0, 0), size))
         };
         altered.chain(limits).chain(full).collect()

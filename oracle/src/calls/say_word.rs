@@ -37,6 +37,8 @@ impl Call for SayWord {
         &[
             &["tag empty", "tag 'nil'", "tag of more bytes"],
             &["sheet without words", "sheet in another order than its items"],
+            &["sheet with a runtime word", "sheet with an addenda word"],
+            &["sheet with a compiled word", "sheet with a word by letters"],
             &["sheet of 65,536 bytes", "bytes behind the last whole item"],
             &["anything in unused items"],
             &["6: compiled entry", "6: letter tree"],
@@ -108,6 +110,7 @@ impl Call for SayWord {
             .inspect_err(|refusal| met.shared(places::refused(*refusal, &given[..place])))
             .map_err(|refusal| Stop::RefusedBeside(refusal, 0))?;
         met.all(rule::stopped(&origin, given));
+        met.all(rule::silent(&origin));
         met.all(rule::spoken(&origin, &word));
         met.all(rule::digits(&origin, &word));
         met.all(cells::of_phones(&bare(&origin)));
@@ -167,6 +170,9 @@ fn said(input: &Input, origin: &lookup::Origin) -> Result<Word, String> {
     }
     if phones != bare(origin) || word.text != wanted.word || !said.words.is_empty() {
         return Err("the original says another word than 01's rule does".into());
+    }
+    if word.source != origin.source() {
+        return Err(format!("the original shows another source than {}", origin.row));
     }
     Ok(word)
 }

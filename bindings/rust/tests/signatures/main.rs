@@ -7,7 +7,7 @@ mod declared;
 use declared::{
     differences, fields_in_c, fields_in_rust, in_c, in_rattle, in_rust, Function, ANSWERS,
 };
-use pronouncer::{Refusal, Setting, Source};
+use pronouncer::{Refusal, Setting, Source, WordSource};
 use std::fs;
 use std::path::Path;
 
@@ -363,6 +363,8 @@ fn numbers_are_the_sources() {
     for source in [Source::Runtime, Source::Addenda, Source::Compiled] {
         same_number("Source", &format!("{source:?}"), source.number());
     }
+    assert_eq!(WordSource::Letters.number(), 4);
+    same_in_header("Letters", 4);
     for (setting, case) in [(Setting::Whole(0), "Whole"), (Setting::Real(0.0), "Real")] {
         same_in_header(case, setting.kind());
     }

@@ -1,13 +1,14 @@
-//! One word: looked up for its source, said on a new sheet, and read back from it.
+//! One word: said on a new sheet, and read back from it with its source.
 
 use std::io::Write;
 
-use commands::program::{tell, Fault, Status};
+use commands::program::{tell, Fault};
 use commands::refusals;
 use commands::typed::Word;
-use pronouncer::{Letters, Lexicon, Refused, Sayable, Sheet, Source, Store};
+use pronouncer::{Letters, Lexicon, Refused, Sayable, Sheet, Store, WordSource};
 use pronouncer::{LARGEST_BYTES, LIST_BYTES};
 
+use crate::tally::Tally;
 use crate::{plain, warnings};
 
 /// What words are said with.
@@ -18,12 +19,13 @@ pub struct Desk<'a> {
     pub store: Store<'a>,
     /// Whether words are asked in their plain form.
     pub plain: bool,
+    /// Whether only words from the letters are listed.
+    pub guessed: bool,
 }
 
 /// What was told of a word.
 pub struct Said {
-    /// None is the letters.
-    pub source: Option<Source>,
+    source: WordSource,
     /// Where its letters stopped; 0 if they were not read.
     pub place: usize,
     pub has_phones: bool,
@@ -31,66 +33,68 @@ pub struct Said {
     reading: String,
 }
 
+impl Said {
+    /// Whether the word came from its letters.
+    pub fn is_guessed(&self) -> bool {
+        self.source == WordSource::Letters
+    }
+}
+
 impl Desk<'_> {
     /// Says one word, with its warning.
-    pub fn say(&self, field: &[u8], out: &mut dyn Write) -> Result<Status, Fault> {
+    pub fn say(&self, field: &[u8], out: &mut dyn Write) -> Result<Tally, Fault> {
         let typed = Word::typed(field);
         if !self.plain {
             return self.answer(field.to_vec(), &typed, out);
         }
-        let mut status = Status::Done;
+        let mut tally = Tally::default();
         let asked = plain::words(self, &typed);
         let differs = asked != [typed];
         for word in asked {
             let name =
                 if differs { [field, b" -> ", &word.field()].concat() } else { field.to_vec() };
-            status = status.and(self.answer(name, &word, out)?);
+            tally += self.answer(name, &word, out)?;
         }
-        Ok(status)
+        Ok(tally)
     }
 
-    /// A line for a word, behind the name that it is told by.
-    fn answer(&self, name: Vec<u8>, word: &Word, out: &mut dyn Write) -> Result<Status, Fault> {
+    /// A line for a word, behind the name that it is told by, if it is one to list.
+    fn answer(&self, name: Vec<u8>, word: &Word, out: &mut dyn Write) -> Result<Tally, Fault> {
         let said = match self.said(word) {
             Ok(said) => said,
             Err(refused) => {
                 let name = String::from_utf8_lossy(&name);
                 let why = refusals::words(refused.refusal);
                 tell(format_args!("{name} is refused: {why}"));
-                return Ok(Status::Refused);
+                return Ok(Tally { words: 1, refused: 1, ..Tally::default() });
             }
         };
-        let source = said.source.map_or("letters".into(), |found| found.to_string());
-        let told = format!(" ({source}):{}\n", said.reading);
-        out.write_all(&[&name, told.as_bytes()].concat())?;
+        if said.is_guessed() || !self.guessed {
+            let told = format!(" ({}):{}\n", said.source, said.reading);
+            out.write_all(&[&name, told.as_bytes()].concat())?;
+        }
         if let Some(warning) = warnings::of(self, word, &said) {
             tell(format_args!("warning: {warning}"));
         }
-        if said.source.is_none() && !said.has_phones {
-            return Ok(Status::Refused);
-        }
-        Ok(Status::Done)
-    }
-
-    /// Where a word is found, if it is.
-    pub fn source(&self, word: &Word) -> Result<Option<Source>, Refused> {
-        let mut phones = [0; LIST_BYTES];
-        let found = self.lexicon.lookup(&self.store, &word.text, &word.tag, &mut phones)?;
-        Ok(found.map(|found| found.source))
+        let guessed = usize::from(said.is_guessed());
+        let silent = usize::from(said.is_guessed() && !said.has_phones);
+        Ok(Tally { words: 1, guessed, silent, refused: 0 })
     }
 
     /// Whether a word is found.
     pub fn has(&self, word: &Word) -> bool {
-        matches!(self.source(word), Ok(Some(_)))
+        let mut phones = [0; LIST_BYTES];
+        let found = self.lexicon.lookup(&self.store, &word.text, &word.tag, &mut phones);
+        matches!(found, Ok(Some(_)))
     }
 
     fn said(&self, word: &Word) -> Result<Said, Refused> {
-        let source = self.source(word)?;
         let mut items = vec![0; LARGEST_BYTES];
         let mut sheet = Sheet::new_sheet(&mut items)?;
         let (lexicon, letters) = (&self.lexicon, &self.letters);
         let said = sheet.say_word(lexicon, letters, &self.store, &word.text, &word.tag)?;
         let has_phones = sheet.phones().next().is_some();
+        let source = sheet.words().next().map_or(WordSource::Letters, |word| word.source());
         Ok(Said { source, place: said.place(), has_phones, reading: reading(&sheet) })
     }
 }

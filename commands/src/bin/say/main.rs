@@ -4,6 +4,7 @@
 
 mod desk;
 mod plain;
+mod tally;
 mod warnings;
 mod words;
 
@@ -14,7 +15,7 @@ use std::path::Path;
 use std::process::ExitCode;
 
 use commands::options::{once, Argument, Known, WrongUse};
-use commands::program::{Fault, Program, Status};
+use commands::program::{tell, Fault, Program, Status};
 use commands::{entries, stores, tables};
 use pronouncer::{Lexicon, Store, Tables};
 
@@ -23,7 +24,7 @@ use desk::Desk;
 const PROGRAM: Program = Program {
     name: "say",
     help: "\
-say [--tables FOLDER] [--store STORE_FILE] [--entries FILE] .. [--plain] [--] [WORD ..]
+say [--tables FOLDER] [--store STORE_FILE] [--entries FILE] .. [--plain] [--guessed] [--] [WORD ..]
 
 Tells each WORD's source, its syllables, each behind its stress, and their phones. A WORD may have a tag behind a
 slash, as lead/v. With no WORD, words are read from standard input, and each line is answered as it comes.
@@ -37,6 +38,8 @@ slash, as lead/v. With no WORD, words are read from standard input, and each lin
   --plain           a word that is not found is asked in small letters, then without outer punctuation, then without
                     a last 's, 've, 'll or 'd, which is asked behind it; the last two with its capitals first; what was
                     asked stands behind ->
+  --guessed         lists only the words that came from the letters, for the check before the show; standard output has
+                    nothing else, and standard error ends with how many words were asked, guessed and refused
   --help            this text
   --version         the version
 
@@ -60,6 +63,10 @@ something was refused or a word from its letters has no phones, with 2 if the co
             name: "--plain",
             has_value: false,
         },
+        Known {
+            name: "--guessed",
+            has_value: false,
+        },
     ],
 };
 
@@ -74,6 +81,7 @@ struct Asked {
     store: Option<OsString>,
     entries: Vec<OsString>,
     plain: bool,
+    guessed: bool,
     /// Texts of words; standard input if there are none.
     texts: Vec<OsString>,
 }
@@ -88,7 +96,8 @@ impl Asked {
                 }
                 Argument::Value(name @ "--store", file) => once(name, &mut asked.store, file)?,
                 Argument::Value(_, file) => asked.entries.push(file),
-                Argument::Option(_) => asked.plain = true,
+                Argument::Option("--plain") => asked.plain = true,
+                Argument::Option(_) => asked.guessed = true,
                 Argument::Operand(text) => asked.texts.push(text),
             }
         }
@@ -107,7 +116,11 @@ fn run(asked: &Asked, out: &mut dyn Write) -> Result<Status, Fault> {
     let mut store = Store::over(&mut slots);
     for file in &asked.entries {
         let taken = add(&tables.lexicon(), &mut store, file.as_ref())?;
-        writeln!(out, "entries: {taken} taken")?;
+        if asked.guessed {
+            tell(format_args!("entries: {taken} taken"));
+        } else {
+            writeln!(out, "entries: {taken} taken")?;
+        }
     }
     let desk = Desk {
         lexicon: tables.lexicon(),
@@ -115,12 +128,17 @@ fn run(asked: &Asked, out: &mut dyn Write) -> Result<Status, Fault> {
         sayable: tables.sayable(),
         store,
         plain: asked.plain,
+        guessed: asked.guessed,
     };
-    if asked.texts.is_empty() {
-        words::from_input(&desk, out)
+    let tally = if asked.texts.is_empty() {
+        words::from_input(&desk, out)?
     } else {
-        words::from_texts(&desk, &asked.texts, out)
+        words::from_texts(&desk, &asked.texts, out)?
+    };
+    if asked.guessed {
+        tell(&tally);
     }
+    Ok(tally.status())
 }
 
 /// Adds the entries of a file, and tells how many there were.

@@ -8,7 +8,7 @@ use crate::plain;
 
 /// The first warning that applies.
 pub fn of(desk: &Desk, word: &Word, said: &Said) -> Option<String> {
-    if said.source.is_some() {
+    if !said.is_guessed() {
         return None;
     }
     let name = quoted(&word.field());

@@ -4,36 +4,37 @@ use std::ffi::OsString;
 use std::io::{self, BufRead, IsTerminal, Read, Write};
 use std::os::unix::ffi::OsStrExt;
 
-use commands::program::{tell, Fault, Status};
+use commands::program::{tell, Fault};
 use commands::typed::fields;
 
 use crate::desk::Desk;
+use crate::tally::Tally;
 
 /// A longer line of standard input is not read.
 const LINE_BYTES: u64 = 1 << 20;
 
 /// The words of each text.
-pub fn from_texts(desk: &Desk, texts: &[OsString], out: &mut dyn Write) -> Result<Status, Fault> {
-    let mut status = Status::Done;
+pub fn from_texts(desk: &Desk, texts: &[OsString], out: &mut dyn Write) -> Result<Tally, Fault> {
+    let mut tally = Tally::default();
     for text in texts {
-        status = status.and(said(desk, text.as_bytes(), out)?);
+        tally += said(desk, text.as_bytes(), out)?;
     }
-    Ok(status)
+    Ok(tally)
 }
 
 /// The words of standard input: each line is answered before the next is waited for.
-pub fn from_input(desk: &Desk, out: &mut dyn Write) -> Result<Status, Fault> {
+pub fn from_input(desk: &Desk, out: &mut dyn Write) -> Result<Tally, Fault> {
     let mut input = io::stdin().lock();
     if input.is_terminal() {
         tell("say: type words, a line at a time; Ctrl-D ends");
     }
-    let mut status = Status::Done;
+    let mut tally = Tally::default();
     let mut line = Vec::new();
     while read_line(&mut input, &mut line)? {
-        status = status.and(said(desk, &line, out)?);
+        tally += said(desk, &line, out)?;
         out.flush()?;
     }
-    Ok(status)
+    Ok(tally)
 }
 
 /// The next line; whether there is one.
@@ -50,10 +51,10 @@ fn read_line(input: &mut impl BufRead, line: &mut Vec<u8>) -> Result<bool, Fault
 }
 
 /// The words of one text, parted by blanks.
-fn said(desk: &Desk, text: &[u8], out: &mut dyn Write) -> Result<Status, Fault> {
-    let mut status = Status::Done;
+fn said(desk: &Desk, text: &[u8], out: &mut dyn Write) -> Result<Tally, Fault> {
+    let mut tally = Tally::default();
     for field in fields(text) {
-        status = status.and(desk.say(field, out)?);
+        tally += desk.say(field, out)?;
     }
-    Ok(status)
+    Ok(tally)
 }

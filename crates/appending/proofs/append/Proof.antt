@@ -58,7 +58,7 @@ returns : tie.Need-returns
 returns c =
     let a = c .before .before .before .before .before .before .before .before .before .before .before .before .before .before .before .before .before .before .before .before .before .before .before .args in
     let l = c .before .before .before .before .before .before .before .before .before .before .before .before .before .before .before .before .before .before .before .before .before .before .before .pre .0 .1 ∙ sym (length-phonesOf (a .phones .now)) in
-    word-tied (a .cuts .now) (phonesOf (a .phones .now)) l (a .word .now) (a .sheet .now) (c .before .before .before .before .before .before .put-word .last .0) (c .before .before .tie .last .0) (c .before .before .before .before .before .before .before .before .before .before .before .before .before .before .before .before .before .last .result) (c .before .before .before .before .before .before .before .before .before .before .before .before .before .before .before .prev .result) (c .before .before .before .before .before .before .before .before .before .before .before .before .before .used .result + 1) (c .before .before .before .before .before .before .before .before .before .next-or .result) (c .before .before .before .before .before .before .before .before .next-or2 .result) (c .before .before .before .before .before .before .before .before .before .before .before .used2 .result + c .before .before .before .before .before .before .before .before .before .before .size .result) (c .before .before .before .before .before .before .before .before .before .before .before .before .before .before .before .before .before .last .ensures) (c .before .before .before .before .before .before .before .before .before .before .before .before .before .before .before .prev .ensures) (omega (arith, c .before .before .before .before .before .before .before .before .before .before .before .before .before .used .ensures)) (omega (arith, c .before .before .before .before .before .before .before .before .before .before .before .used2 .ensures, c .before .before .before .before .before .before .before .before .before .before .size .ensures)) (c .before .before .before .before .before .before .before .before .before .next-or .ensures) (c .before .before .before .before .before .before .before .before .next-or2 .ensures) (c .before .before .before .before .before .before .put-word .ensures) (c .before .before .tie .ensures)
+    word-tied (a .cuts .now) (phonesOf (a .phones .now)) l (a .word .now) (a .source) (a .sheet .now) (c .before .before .before .before .before .before .put-word .last .0) (c .before .before .tie .last .0) (c .before .before .before .before .before .before .before .before .before .before .before .before .before .before .before .before .before .last .result) (c .before .before .before .before .before .before .before .before .before .before .before .before .before .before .before .prev .result) (c .before .before .before .before .before .before .before .before .before .before .before .before .before .used .result + 1) (c .before .before .before .before .before .before .before .before .before .next-or .result) (c .before .before .before .before .before .before .before .before .next-or2 .result) (c .before .before .before .before .before .before .before .before .before .before .before .used2 .result + c .before .before .before .before .before .before .before .before .before .before .size .result) (c .before .before .before .before .before .before .before .before .before .before .before .before .before .before .before .before .before .last .ensures) (c .before .before .before .before .before .before .before .before .before .before .before .before .before .before .before .prev .ensures) (omega (arith, c .before .before .before .before .before .before .before .before .before .before .before .before .before .used .ensures)) (omega (arith, c .before .before .before .before .before .before .before .before .before .before .before .used2 .ensures, c .before .before .before .before .before .before .before .before .before .before .size .ensures)) (c .before .before .before .before .before .before .before .before .before .next-or .ensures) (c .before .before .before .before .before .before .before .before .next-or2 .ensures) (c .before .before .before .before .before .before .put-word .ensures) (c .before .before .tie .ensures)
 
 pub append-spec : {M : Type 1} → statement M
 append-spec =

@@ -34,7 +34,7 @@ returns : tie.Need-returns
 returns c =
     let a = c .before .before .before .before .before .before .before .before .before .before .before .before .before .before .args in
     let l = c .before .before .before .before .before .before .before .before .before .before .before .before .before .before .pre .1 ∙ sym (length-phonesOf (a .phones .now)) in
-    word-written (a .cuts .now) (phonesOf (a .phones .now)) l (a .word .now) (a .sheet .now) (c .before .before .before .before .before .before .put-item .last .0) (c .before .before .put-syllables .last .0) (a .n) (a .q) (c .before .before .before .before .before .before .before .before .before .next-or .result) (c .before .before .before .before .before .before .before .before .last-syllable .result) (c .before .before .before .before .before .before .before .before .before .next-or .ensures) (c .before .before .before .before .before .before .before .before .last-syllable .ensures) (c .before .before .before .before .before .before .put-item .ensures) (c .before .before .put-syllables .ensures)
+    word-written (a .cuts .now) (phonesOf (a .phones .now)) l (a .word .now) (a .source) (a .sheet .now) (c .before .before .before .before .before .before .put-item .last .0) (c .before .before .put-syllables .last .0) (a .n) (a .q) (c .before .before .before .before .before .before .before .before .before .next-or .result) (c .before .before .before .before .before .before .before .before .last-syllable .result) (c .before .before .before .before .before .before .before .before .before .next-or .ensures) (c .before .before .before .before .before .before .before .before .last-syllable .ensures) (c .before .before .before .before .before .before .put-item .ensures) (c .before .before .put-syllables .ensures)
 
 pub put-word-spec : {M : Type 1} → statement M
 put-word-spec =

@@ -6,23 +6,17 @@ use native.Mathlib.Omega.{arith}
 use mathlib.Core.Path.{_≡_, refl, sym, ap, _∙_}
 use mathlib.Core.List.{List, [], _∷_, _++_}
 use lib.ListN.{length, getD, take, drop, length-drop}
-use lib.Seq.{paste, drop-cons}
+use lib.Seq.{drop-cons}
 use Rattle.texts.specs.Lists.{from, length-from}
 use Rattle.records.specs.Records.{putRecord}
 use Rattle.records.specs.Chain.{endOf}
-use Rattle.items.specs.Item.{Item, item}
-use Rattle.items.specs.Laws.Written.{length-item}
+use Rattle.items_spec.specs.Item.{Item, item}
 use Rattle.utterance_spec.specs.Tree.{Syllable, syllablesAt}
 use Rattle.utterance_spec.specs.Append.{headOr, sizeIn, size, numbered, phoneItems, syllableItems, wordItems, putItems, tied, appended}
 use Rattle.utterance_spec.specs.Sheet.{at, used}
-use Rattle.utterance_spec.specs.Cuts.{grouped, Ended}
+use Rattle.utterance_spec.specs.Cuts.{grouped, wordOf, Ended}
 use Rattle.appending.specs.Laws.Grouped.{span, end-behind, grouped-from}
 use Rattle.appending.specs.Laws.Numbers.{head-some, end-from, syllable-at, phone-at, phone-last, grouped-end, numbered-turn, phones-long}
-
--- an item made elsewhere and pasted at its place
-pub put-written : (b c d : List ℕ) (n : ℕ) (i : Item) → length (i .text) ≤ 47 → c ≡ item i → d ≡ paste b (64 * n) c (length c) → d ≡ putRecord 64 b n (item i)
-unfolding putRecord
-put-written b c d n i h ec ed = let l : length c ≡ 64 = rw ec (length-item i h) in ed ∙ rw (l, ec)
 
 -- items put behind others
 put-append : (b : List ℕ) (k : ℕ) (is js : List Item) → putItems b k (is ++ js) ≡ putItems (putItems b k is) (k + length is) js
@@ -116,16 +110,16 @@ unfolding putItems syllablesFrom syllableItems numbered
 syllables-end b ms ps i w q k h = rw (grouped-end ms ps i h)
 
 -- the word's own item and its syllables, and then the ties
-module _ (ms : List ℕ) (ps : List (List ℕ)) (l : length ms ≡ length ps) (text : List ℕ) where
+module _ (ms : List ℕ) (ps : List (List ℕ)) (l : length ms ≡ length ps) (text : List ℕ) (source : ℕ) where
   pub word-written : (b s t : List ℕ) (n q y z : ℕ) → y ≡ headOr 0 (from (n + 1) (length ms)) → z ≡ endOf 0 (syllablesAt (numbered (n + 1) (grouped ms ps)))
-      → s ≡ putRecord 64 b n (item (record { kind = 1; stress = 0; next = 0; first = y; last = z; parent = 0; prev = 0; follow = 0; mark = 0; source = 0; text = text }))
-      → t ≡ putItems s (n + 1) (syllablesFrom n q (n + 1) (grouped ms ps)) → t ≡ putItems b n (wordItems n q (record { text = text; syllables = grouped ms ps }))
+      → s ≡ putRecord 64 b n (item (record { kind = 1; stress = 0; next = 0; first = y; last = z; parent = 0; prev = 0; follow = 0; mark = 0; source = source; text = text }))
+      → t ≡ putItems s (n + 1) (syllablesFrom n q (n + 1) (grouped ms ps)) → t ≡ putItems b n (wordItems n q (wordOf text source ms ps))
   unfolding putItems wordItems syllablesFrom
   word-written b s t n q y z ey ez es et = et ∙ rw (es, ey, ez, syllable-at ms ps l (n + 1))
 
   pub word-tied : (b s t : List ℕ) (w q n a z u : ℕ) → w ≡ at b 0 .last → q ≡ at b 0 .prev → n ≡ used b + 1 → u ≡ used b + (1 + sizeIn (grouped ms ps))
       → a ≡ headOr 0 (from (n + 2) (length ms)) → z ≡ headOr q (from u (length ms))
-      → s ≡ putItems b n (wordItems n q (record { text = text; syllables = grouped ms ps })) → t ≡ tied s w q n a z u → t ≡ appended b (record { text = text; syllables = grouped ms ps })
+      → s ≡ putItems b n (wordItems n q (wordOf text source ms ps)) → t ≡ tied s w q n a z u → t ≡ appended b (wordOf text source ms ps)
   unfolding appended size
   word-tied b s t w q n a z u ew eq en eu ea ez es et =
       let e₁ : used b + 1 + 1 + 1 ≡ used b + 1 + 2 = omega arith in

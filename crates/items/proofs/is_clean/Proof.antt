@@ -8,7 +8,7 @@ use borrow.Author.Tests.{le-leb, lt-leb}
 use Rattle.texts.specs.Lists.{every}
 use Rattle.texts.specs.Text.{is}
 use Rattle.records.specs.Records.{part-from}
-use Rattle.items.specs.Item.{isClean}
+use Rattle.items_spec.specs.Item.{isClean}
 use borrow.Author.Needs.{needs}
 use Rattle.items.proofs.is_clean.Statement.{statement}
 use Rattle.items.proofs.is_clean.Tie as tie

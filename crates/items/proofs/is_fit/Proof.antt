@@ -4,7 +4,7 @@ use Rattle.items.proofs.is_fit.Statement.{statement}
 use mathlib.Core.Path.{sym, _∙_}
 use lib.ListN.{getD}
 use borrow.Author.Tests.{eq-eqb, ne-eqb}
-use Rattle.items.specs.Item.{itemOf, fits}
+use Rattle.items_spec.specs.Item.{itemOf, fits}
 use Rattle.items.proofs.is_fit.Tie as tie
 
 byte-at-requires : tie.Need-byte-at-requires

@@ -2,7 +2,7 @@
 use borrow.Author.Needs.{needs}
 use Rattle.items.proofs.is_head.Statement.{statement}
 use mathlib.Core.Path.{_∙_}
-use Rattle.items.specs.Item.{isHead}
+use Rattle.items_spec.specs.Item.{isHead}
 use Rattle.items.proofs.is_head.Tie as tie
 
 is-clean-requires : tie.Need-is-clean-requires

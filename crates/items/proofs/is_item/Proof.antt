@@ -3,7 +3,7 @@ use borrow.Author.Needs.{needs}
 use Rattle.items.proofs.is_item.Statement.{statement}
 use borrow.Author.Tests.{not-true, not-false}
 use mathlib.Core.Path.{sym, _∙_}
-use Rattle.items.specs.Item.{isItem}
+use Rattle.items_spec.specs.Item.{isItem}
 use Rattle.items.proofs.is_item.Tie as tie
 
 is-clean-requires : tie.Need-is-clean-requires

@@ -4,7 +4,7 @@ use Rattle.items.proofs.is_syllable_item.Statement.{statement}
 use lib.Dec.{eqb}
 use mathlib.Core.Bool.{_&&_, _||_, and-assoc}
 use mathlib.Core.Path.{_∙_}
-use Rattle.items.specs.Item.{itemOf, isSyllableItem}
+use Rattle.items_spec.specs.Item.{itemOf, isSyllableItem}
 use Rattle.items.proofs.is_syllable_item.Tie as tie
 
 byte-at-requires : tie.Need-byte-at-requires
@@ -25,8 +25,8 @@ are-zero-requires c κs = search needs
 both-requires-2 : tie.Need-both-requires-2
 both-requires-2 c κs = search needs
 
-is-plain-requires : tie.Need-is-plain-requires
-is-plain-requires c κs = search needs
+is-unmarked-requires : tie.Need-is-unmarked-requires
+is-unmarked-requires c κs = search needs
 
 both-requires-3 : tie.Need-both-requires-3
 both-requires-3 c κs = search needs
@@ -43,7 +43,7 @@ returns c =
     let i = itemOf (c .before .before .before .before .before .before .before .before .before .before .before .args .item .now) in
     let f = eqb (i .kind) 2 && (eqb (i .stress) 48 || eqb (i .stress) 49) in
     c .both4 .ensures
-    ∙ rw (c .before .before .both3 .ensures, c .before .before .before .before .both2 .ensures, c .before .before .before .before .before .before .both .ensures, c .before .before .before .before .before .before .before .before .before .byte-at .ensures, c .before .before .before .before .before .before .before .is-stress .ensures, c .before .before .before .before .before .before .before .before .byte-at2 .ensures, c .before .before .before .before .before .are-zero .ensures, c .before .before .before .is-plain .ensures, c .before .text .ensures, ← and-assoc f (eqb (i .prev) 0) (eqb (i .follow) 0))
+    ∙ rw (c .before .before .both3 .ensures, c .before .before .before .before .both2 .ensures, c .before .before .before .before .before .before .both .ensures, c .before .before .before .before .before .before .before .before .before .byte-at .ensures, c .before .before .before .before .before .before .before .is-stress .ensures, c .before .before .before .before .before .before .before .before .byte-at2 .ensures, c .before .before .before .before .before .are-zero .ensures, c .before .before .before .is-unmarked .ensures, c .before .text .ensures, ← and-assoc f (eqb (i .prev) 0) (eqb (i .follow) 0), ← and-assoc (f && eqb (i .prev) 0 && eqb (i .follow) 0) (eqb (i .mark) 0) (eqb (i .source) 0))
 
 pub is-syllable-item-spec : {M : Type 1} → statement M
 is-syllable-item-spec =
@@ -55,7 +55,7 @@ is-syllable-item-spec =
     both-requires
     are-zero-requires
     both-requires-2
-    is-plain-requires
+    is-unmarked-requires
     both-requires-3
     text-requires
     both-requires-4

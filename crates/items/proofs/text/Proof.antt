@@ -2,7 +2,7 @@
 use borrow.Author.Needs.{needs}
 use Rattle.items.proofs.text.Statement.{statement}
 use mathlib.Core.Path.{_∙_}
-use Rattle.items.specs.Item.{itemOf}
+use Rattle.items_spec.specs.Item.{itemOf}
 use Rattle.items.proofs.text.Tie as tie
 
 tail-requires : tie.Need-tail-requires

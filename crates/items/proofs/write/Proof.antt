@@ -86,7 +86,7 @@ returns : tie.Need-returns
 returns c =
     let a = c .before .before .before .before .before .before .before .before .before .before .before .before .before .before .before .before .before .before .before .before .before .before .before .before .before .before .before .before .before .before .before .before .before .before .args in
     item-written (a .dst .now) (c .before .before .before .before .before .before .before .before .before .before .before .before .before .before .before .before .before .before .before .before .before .before .before .before .before .before .before .before .before .before .put-u16 .last .0) (c .before .before .before .before .before .before .before .before .before .before .before .before .before .before .before .before .before .before .before .before .before .before .before .before .before .before .put-u162 .last .0) (c .before .before .before .before .before .before .before .before .before .before .before .before .before .before .before .before .before .before .before .before .before .before .put-u163 .last .0) (c .before .before .before .before .before .before .before .before .before .before .before .before .before .before .before .before .before .before .put-u164 .last .0) (c .before .before .before .before .before .before .before .before .before .before .before .before .before .before .put-u165 .last .0) (c .before .before .before .before .before .before .before .before .before .before .put-u166 .last .0) (c .before .before .before .before .before .before .copy-in .last .0) (c .before .before .clear .last .0)
-    (record { kind = a .kind; stress = a .stress; next = a .next; first = a .first; last = a .last; parent = a .parent; prev = a .prev; follow = a .follow; mark = 0; source = 0; text = a .text .now })
+    (record { kind = a .kind; stress = a .stress; next = a .next; first = a .first; last = a .last; parent = a .parent; prev = a .prev; follow = a .follow; mark = 0; source = a .source; text = a .text .now })
     (c .before .before .before .before .before .before .before .before .before .before .before .before .before .before .before .before .before .before .before .before .before .before .before .before .before .before .before .before .before .before .before .before .before .before .pre .0) (c .before .before .before .before .before .before .before .before .before .before .before .before .before .before .before .before .before .before .before .before .before .before .before .before .before .before .before .before .before .before .before .before .before .before .pre .1)
     (c .before .before .before .before .before .before .before .before .before .before .before .before .before .before .before .before .before .before .before .before .before .before .before .before .before .before .before .before .before .before .put-u16 .ensures) (c .before .before .before .before .before .before .before .before .before .before .before .before .before .before .before .before .before .before .before .before .before .before .before .before .before .before .put-u162 .ensures) (c .before .before .before .before .before .before .before .before .before .before .before .before .before .before .before .before .before .before .before .before .before .before .put-u163 .ensures) (c .before .before .before .before .before .before .before .before .before .before .before .before .before .before .before .before .before .before .put-u164 .ensures) (c .before .before .before .before .before .before .before .before .before .before .before .before .before .before .put-u165 .ensures) (c .before .before .before .before .before .before .before .before .before .before .put-u166 .ensures) (c .before .before .before .before .before .before .copy-in .ensures) (c .before .before .clear .ensures)
 

@@ -12,7 +12,7 @@ use borrow.Author.Tests.{eq-eqb, ne-eqb}
 use Rattle.texts.specs.Choice.{if_then_else_, cases}
 use Rattle.records.specs.Records.{recordAt, paste-more, paste-turn}
 use Rattle.records.specs.Chain.{chain, chain-turn, chain-stop, chain-end}
-use Rattle.items.specs.Item.{itemOf}
+use Rattle.items_spec.specs.Item.{itemOf}
 use Rattle.utterance_spec.specs.Tree.{follow, textAt}
 use Rattle.utterance_spec.specs.Sheet.{at, used}
 use Rattle.phonestring.specs.PhoneString.{phones, led, spaced, string}

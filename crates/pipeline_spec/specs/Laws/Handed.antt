@@ -8,7 +8,7 @@ use lib.ListN.{length, take}
 use lib.Seq.{take-append-seam}
 use Rattle.cells.specs.Cells.{phonesOf, cellsOf, length-cellsOf, length-phonesOf}
 use Rattle.utterance_spec.specs.Tree.{Syllable}
-use Rattle.utterance_spec.specs.Cuts.{grouped, Ended}
+use Rattle.utterance_spec.specs.Cuts.{wordOf, Ended}
 use Rattle.pipeline_spec.specs.Pronounced.{said}
 use Rattle.pipeline_spec.specs.Cutting.{cutsOf}
 use Rattle.pipeline_spec.specs.Laws.Cuts.{ownMarks, cuts-sung, cuts-ended, length-cuts, length-own}
@@ -17,7 +17,7 @@ use Rattle.pipeline_spec.specs.Laws.BareCells.{bareOf, length-bare, bare
 pub record Handed (phones cells ends : List ℕ) : Type 0 where
   pub paired : length ends ≡ length cells / 16
   pub ended : Ended ends
-  pub word : (text : List ℕ) → record { text = text; syllables = grouped ends (phonesOf cells) } ≡ said text (phonesOf phones)
+  pub word : (text : List ℕ) (source : ℕ) → wordOf text source ends (phonesOf cells) ≡ said text source (phonesOf phones)
 
 module _ (phones cells ends more rest : List ℕ) (n : ℕ) (e : n ≡ length phones / 16)
     (b : cells ≡ take (16 * n) (cellsOf (bareOf phones) ++ more)) (c : ends ≡ take n (cutsOf 48 (ownMarks (phonesOf phones)) (phonesOf phones) ++ rest)) where
@@ -47,5 +47,6 @@ module _ (phones cells ends more rest : List ℕ) (n : ℕ) (e : n ≡ length ph
       record {
         paired = omega (arith, l, m);
         ended = subst Ended (sym cuts-are) (cuts-ended (phonesOf phones));
-        word = λ text. ap (λ (ys : List Syllable). record { text = text; syllables = ys }) (rw (cuts-are, cells-are) (cuts-sung (phonesOf phones)));
+        word = λ text source.
+            ap (λ (ys : List Syllable). record { text = text; source = source; syllables = ys }) (rw (cuts-are, cells-are) (cuts-sung (phonesOf phones)));
       }

@@ -24,7 +24,7 @@ use Rattle.answers.specs.Laws.Numbers.{refused-never}
 use Rattle.pipeline_spec.specs.Pronounced.{Sections, Spoken, barred, phones, onFinding, pronounced, said}
 use Rattle.pipeline_spec.specs.Cutting.{toldSpoken, cellsSpoken}
 use Rattle.pipeline_spec.specs.Laws.BareCells.{front-phones}
-use Rattle.pipeline_spec.specs.Placing.{placed, onSpoken, withSpoken}
+use Rattle.pipeline_spec.specs.Placing.{placed, sheetPlaced, onSpoken, withSpoken}
 
 -- a refusal has a number
 abbrev pub Real : Spoken → Type 0
@@ -58,14 +58,15 @@ module _ (sheet word : List ℕ) where
   -- phones, read back from the front of a room
   pub said-phones : (p : Spoken) (source place n : ℕ) (room cells : List ℕ) → Real p → acceptedWith source n place 0 ≡ toldSpoken p → cells ≡ take (16 * n) (cellsSpoken p room)
       → ((source place : ℕ) (ps : List (List ℕ)) → p ≡ phones source place ps → every isPhone ps ≡ true)
-      → (placed sheet place (said word (phonesOf cells)) ≡ onSpoken sheet word p)
-      × (written (placed sheet place (said word (phonesOf cells))) sheet (appended sheet (said word (phonesOf cells))) ≡ written (onSpoken sheet word p) sheet (withSpoken sheet word p))
+      → (placed sheet place (said word source (phonesOf cells)) ≡ onSpoken sheet word p)
+      × (sheetPlaced sheet place (said word source (phonesOf cells)) ≡ written (onSpoken sheet word p) sheet (withSpoken sheet word p))
   said-phones (barred m) source place n room cells r h e f = absurd (r (sym (ap (λ (a : Answer). a .refusal) h)))
   said-phones (phones s q ps) source place n room cells r h e f =
       let l : n ≡ length ps = ap (λ (a : Answer). a .value) h in
       let m : place ≡ q = ap (λ (a : Answer). a .second) h in
+      let o : source ≡ s = ap (λ (a : Answer). a .kind) h in
       let k = ap phonesOf e ∙ front-phones ps (drop (16 * length ps) room) n (phone-short ps (f s q ps refl)) (sym l) in
-      (rw (k, m), rw (k, m))
+      (rw (k, m, o), rw (k, m, o))
 
 -- as many as the room has cells for
 pub phones-few : (p : Spoken) (source place n : ℕ) (room rest : List ℕ) → Real p → acceptedWith source n place 0 ≡ toldSpoken p → rest ≡ cellsSpoken p room → length rest ≡ 1536

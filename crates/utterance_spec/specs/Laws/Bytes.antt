@@ -12,8 +12,8 @@ use Rattle.texts.specs.Lists.{from, length-from}
 use Rattle.records.specs.Fields.{put16}
 use Rattle.records.specs.Records.{recordAt, length-recordAt}
 use Rattle.records.specs.Chain.{All, endOf, all-map, all-end}
-use Rattle.items.specs.Item.{itemOf, isWordItem, isSyllableItem, isPhoneItem, isHeadItem, fits, isItem, isHead}
-use Rattle.items.specs.Laws.Patched.{patch-clean, patch-next, patch-follow}
+use Rattle.items_spec.specs.Item.{itemOf, isWordItem, isSyllableItem, isPhoneItem, isHeadItem, fits, isItem, isHead}
+use Rattle.items_spec.specs.Laws.Patched.{patch-clean, patch-next, patch-follow}
 use Rattle.utterance_spec.specs.Tree.{Word, phonesIn}
 use Rattle.utterance_spec.specs.Sheet.{at, used, items}
 use Rattle.utterance_spec.specs.Append.{headOr, size, numbered, wordItems, putItems, tied, appended, isSaid}

@@ -12,7 +12,7 @@ use borrow.Author.Tests.{eqb-true, eq-eqb, ne-eqb}
 use Rattle.texts.specs.Choice.{if_then_else_, cases, both-true, never}
 use Rattle.texts.specs.Lists.{every}
 use Rattle.records.specs.Chain.{All, Linked}
-use Rattle.items.specs.Item.{Item}
+use Rattle.items_spec.specs.Item.{Item}
 use Rattle.utterance_spec.specs.Tree.{SyllableAt, WordAt, phonesIn, phonesAt, itemsIn, itemsAt, FullIn, Full, prev, follow, Children, Syllables, Words}
 use Rattle.utterance_spec.specs.Sheet.{isFull, isChained}
 use Rattle.utterance_spec.specs.Laws.Ties.{Run, linked-run, run-linked, sibling-first}

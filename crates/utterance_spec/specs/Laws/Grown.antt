@@ -11,7 +11,7 @@ use borrow.Author.Tests.{eq-eqb, ne-eqb}
 use Rattle.texts.specs.Choice.{if_then_else_}
 use Rattle.texts.specs.Lists.{from}
 use Rattle.records.specs.Chain.{All, Distinct, Linked, endOf, all-map, all-append, all-end, end-append}
-use Rattle.items.specs.Item.{Item}
+use Rattle.items_spec.specs.Item.{Item}
 use Rattle.utterance_spec.specs.Tree.{Word, WordAt, wordsAt, phonesIn, phonesAt, itemsAt, Full, sibling, prev, follow, Children, Tree, wordAt}
 use Rattle.utterance_spec.specs.Append.{headOr, size, numbered, placeOf, wordItems}
 use Rattle.utterance_spec.specs.Laws.Behind.{all-both, all-reverse, reverse-append, head-reverse, distinct-append, all-from, distinct-from, onto-linked, backed-linked, linked-head, moved, join}

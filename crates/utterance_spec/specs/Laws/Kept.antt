@@ -7,7 +7,7 @@ use mathlib.Core.Logic.{_≢_}
 use mathlib.Core.List.{List, [], _∷_, map}
 use borrow.Author.Tests.{eq-eqb}
 use Rattle.records.specs.Chain.{All, all-map, all-left, all-right, frame}
-use Rattle.items.specs.Item.{Item}
+use Rattle.items_spec.specs.Item.{Item}
 use Rattle.utterance_spec.specs.Tree.{SyllableAt, WordAt, syllablesAt, itemsIn, itemsAt, sibling, Children, Syllables, Words, textAt, syllableAt, wordAt}
 use Rattle.utterance_spec.specs.Laws.Behind.{all-both}
 
@@ -20,6 +20,8 @@ pub record Kept (S T : ℕ → Item) (lw lp i : ℕ) : Type 0 where
   pub last : T i .last ≡ S i .last
   pub parent : T i .parent ≡ S i .parent
   pub prev : T i .prev ≡ S i .prev
+  pub mark : T i .mark ≡ S i .mark
+  pub source : T i .source ≡ S i .source
   pub text : T i .text ≡ S i .text
   pub next : i ≢ lw → T i .next ≡ S i .next
   pub follow : i ≢ lp → T i .follow ≡ S i .follow
@@ -39,6 +41,8 @@ module _ (S T : ℕ → Item) (lw lp : ℕ) where
         last = ap (λ (x : Item). x .last) e;
         parent = ap (λ (x : Item). x .parent) e;
         prev = ap (λ (x : Item). x .prev) e;
+        mark = ap (λ (x : Item). x .mark) e;
+        source = ap (λ (x : Item). x .source) e;
         text = ap (λ (x : Item). x .text) e;
         next = λ ne. ap (λ (x : Item). x .next) e ∙ a ne;
         follow = λ ne. ap (λ (x : Item). x .follow) e ∙ b ne;
@@ -61,7 +65,7 @@ module _ (S T : ℕ → Item) (lw lp : ℕ) where
   words-say (w ∷ ws) h =
       let a = syllables-say (w .syllables) (all-left (Kept S T lw lp) (itemsIn (w .syllables)) (itemsAt ws) (h .1)) in
       let ih = words-say ws (all-right (Kept S T lw lp) (itemsIn (w .syllables)) (itemsAt ws) (h .1)) in
-      rw (h .0 .text, a, ih)
+      rw (h .0 .text, h .0 .source, a, ih)
 
   -- the children of p, none of which is the last word
   children-kept : (p : ℕ) (xs : List ℕ) → Kept S T lw lp p → All (λ (x : ℕ). Kept S T lw lp x × (x ≢ lw)) xs → Children S p xs → Children T p xs

@@ -12,7 +12,7 @@ use lib.ListN.{length, length-append}
 use borrow.Author.Tests.{eqb-true, eqb-false}
 use Rattle.texts.specs.Choice.{cases}
 use Rattle.records.specs.Chain.{All, Linked}
-use Rattle.items.specs.Item.{Item}
+use Rattle.items_spec.specs.Item.{Item}
 use Rattle.utterance_spec.specs.Tree.{SyllableAt, WordAt, syllablesAt, wordsAt, itemsIn, itemsAt, Syllables, Words, Tree}
 use Rattle.utterance_spec.specs.Sheet.{afterSyllable, after, isParent, isSibling}
 use Rattle.utterance_spec.specs.Laws.Ties.{Run, run-from, linked-run, orElse, or-up, or-on, or-none, after-phone, after-syllable, after-word, after-top, Tie, tie-first, tie-next, Siblings, siblings-none, siblings-more, siblings-children}

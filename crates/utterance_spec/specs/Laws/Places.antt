@@ -8,7 +8,7 @@ use mathlib.Core.List.{List, [], _∷_, _++_, map, append-assoc, append-nil}
 use lib.ListN.{length}
 use Rattle.texts.specs.Lists.{from, length-from}
 use Rattle.records.specs.Chain.{All, all-append, all-left, all-right}
-use Rattle.items.specs.Item.{Item}
+use Rattle.items_spec.specs.Item.{Item}
 use Rattle.utterance_spec.specs.Tree.{Syllable, Word, SyllableAt, WordAt, syllablesAt, wordsAt, phonesIn, phonesAt, itemsIn, itemsAt, FullIn, Full, Syllables, Words}
 use Rattle.utterance_spec.specs.Append.{sizeIn, size, numbered, placeOf}
 use Rattle.utterance_spec.specs.Laws.Behind.{from-append}

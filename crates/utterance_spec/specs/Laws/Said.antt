@@ -9,7 +9,7 @@ use lib.ListN.{length, length-append}
 use borrow.Author.Tests.{eq-eqb, ne-eqb}
 use Rattle.texts.specs.Lists.{from}
 use Rattle.records.specs.Chain.{All, Distinct, endOf, all-map, all-left, all-right}
-use Rattle.items.specs.Item.{Item}
+use Rattle.items_spec.specs.Item.{Item}
 use Rattle.utterance_spec.specs.Tree.{Syllable, Word, SyllableAt, syllablesAt, phonesIn, itemsIn, sibling, prev, follow, Children, Syllables, Words, textAt, syllableAt, wordAt}
 use Rattle.utterance_spec.specs.Append.{headOr, size, numbered, placeOf, phoneItems, syllableItems, wordItems}
 use Rattle.utterance_spec.specs.Laws.Behind.{Onto, Backed, onto-append, onto-frame, onto-linked, backed-append, distinct-right}
@@ -142,5 +142,5 @@ module _ (T : ℕ → Item) where
         next = ap (λ (i : Item). i .next) (new .0);
         follows = p .follows;
         prevs = p .prevs;
-        says = rw (ap (λ (i : Item). i .text) (new .0), p .says);
+        says = rw (ap (λ (i : Item). i .text) (new .0), ap (λ (i : Item). i .source) (new .0), p .says);
       }

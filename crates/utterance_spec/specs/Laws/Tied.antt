@@ -13,8 +13,8 @@ use borrow.Author.Tests.{eq-eqb, ne-eqb}
 use Rattle.texts.specs.Choice.{if_then_else_, cases}
 use Rattle.records.specs.Fields.{put16, length-put16}
 use Rattle.records.specs.Records.{recordAt, put16-same, put16-other}
-use Rattle.items.specs.Item.{Item, itemOf, isClean}
-use Rattle.items.specs.Laws.Patched.{patch-clean, patch-first, patch-last, patch-parent, patch-prev, patch-follow}
+use Rattle.items_spec.specs.Item.{Item, itemOf, isClean}
+use Rattle.items_spec.specs.Laws.Patched.{patch-clean, patch-first, patch-last, patch-parent, patch-prev, patch-follow}
 use Rattle.utterance_spec.specs.Append.{wordLink, tied}
 use Rattle.utterance_spec.specs.Laws.Grown.{withWord}
 

@@ -9,7 +9,7 @@ use lib.Dec.{eqb}
 use borrow.Author.Tests.{eqb-true, eqb-false, eq-eqb, ne-eqb}
 use Rattle.texts.specs.Choice.{if_then_else_, cases, both-true}
 use Rattle.records.specs.Chain.{All, Linked, endOf, all-map}
-use Rattle.items.specs.Item.{Item}
+use Rattle.items_spec.specs.Item.{Item}
 use Rattle.utterance_spec.specs.Tree.{sibling, Children}
 use Rattle.utterance_spec.specs.Sheet.{afterSyllable, afterPhone, beyond, after, isParent, isSibling}
 

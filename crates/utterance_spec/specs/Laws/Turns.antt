@@ -10,7 +10,7 @@ use lib.Dec.{eqb}
 use Rattle.texts.specs.Choice.{if_then_else_, cases, never, both-true}
 use Rattle.texts.specs.Lists.{every}
 use Rattle.records.specs.Chain.{chain, chain-more}
-use Rattle.items.specs.Item.{Item}
+use Rattle.items_spec.specs.Item.{Item}
 use Rattle.utterance_spec.specs.Sheet.{at, used, items, after, isFull, isChained, isPlaced, walks, order}
 use Rattle.utterance_spec.specs.Decided.{placed}
 

@@ -7,7 +7,7 @@ use mathlib.Core.Logic.{_≢_}
 use mathlib.Core.Bool.{true}
 use mathlib.Core.List.{List, [], _∷_}
 use Rattle.records.specs.Chain.{All, Linked, all-left, all-right, all-append}
-use Rattle.items.specs.Item.{Item}
+use Rattle.items_spec.specs.Item.{Item}
 use Rattle.utterance_spec.specs.Tree.{SyllableAt, WordAt, syllablesAt, wordsAt, itemsIn, itemsAt, Children, Syllables, Words, Tree}
 use Rattle.utterance_spec.specs.Sheet.{afterSyllable, after, isParent, isSibling}
 use Rattle.utterance_spec.specs.Laws.Ties.{Run, run-from, run-append, run-linked, orElse, or-up, or-on, after-phone, after-syllable, after-word, after-top, first-tie, Siblings, siblings-rest, siblings-tie, siblings-are, children-siblings}

@@ -14,8 +14,8 @@ use Rattle.texts.specs.Lists.{every, from}
 use Rattle.texts.specs.Text.{ascii, isWord, word-short, isPhone}
 use Rattle.records.specs.Records.{recordAt, putRecord, length-putRecord, putRecord-same, putRecord-other}
 use Rattle.records.specs.Chain.{All, endOf}
-use Rattle.items.specs.Item.{Item, item, itemOf, isWordItem, isSyllableItem, isPhoneItem, fits, isItem}
-use Rattle.items.specs.Laws.Written.{length-item, item-back, item-clean}
+use Rattle.items_spec.specs.Item.{Item, item, itemOf, isSource, isWordItem, isSyllableItem, isPhoneItem, fits, isItem}
+use Rattle.items_spec.specs.Laws.Written.{length-item, item-back, item-clean}
 use Rattle.utterance_spec.specs.Tree.{Syllable, Word, SyllableAt, phonesIn}
 use Rattle.utterance_spec.specs.Sheet.{at}
 use Rattle.utterance_spec.specs.Append.{headOr, numbered, phoneItems, syllableItems, wordItems, putItems, isSyllable, isSaid}
@@ -67,15 +67,19 @@ syllables-good w q (s ∷ ss) (y ∷ ys) h =
           (phones-good (s .at) q (headOr 0 (phonesIn ss)) (s .phones) (y .phones) (p .2)) (syllables-good w (endOf q (s .phones)) ss ys (b .1)),
     )
 
-pub said-parts : (w : Word) → isSaid w ≡ true → (isWord (w .text) ≡ true) × (every isSyllable (w .syllables) ≡ true)
+pub said-parts : (w : Word) → isSaid w ≡ true
+    → (isWord (w .text) ≡ true) × (isSource (w .source) ≡ true) × (every isSyllable (w .syllables) ≡ true)
 unfolding isSaid
-said-parts w h = both-true (isWord (w .text)) (every isSyllable (w .syllables)) h
+said-parts w h =
+    let a = both-true (isWord (w .text) && isSource (w .source)) (every isSyllable (w .syllables)) h in
+    let b = both-true (isWord (w .text)) (isSource (w .source)) (a .0) in
+    (b .0, b .1, a .1)
 
 pub word-good : (n q : ℕ) (w : Word) → isSaid w ≡ true → Good (wordItems n q w)
 unfolding wordItems fits isWordItem
 word-good n q w h =
     let b = said-parts w h in
-    (word-short (w .text) (b .0), b .0, syllables-good n q (numbered (n + 1) (w .syllables)) (w .syllables) (b .1))
+    (word-short (w .text) (b .0), rw (b .0, b .1), syllables-good n q (numbered (n + 1) (w .syllables)) (w .syllables) (b .2))
 
 -- these items stand whole at these places
 abbrev pub Wrote : List ℕ → List ℕ → List Item → Type 0

@@ -219,9 +219,14 @@ rows! { pub ROWS:
     /// What the words of a sheet met.
     utterance(sheet: &Sheet) {
         let said: Vec<_> = sheet.wanted.iter().zip(&sheet.said).collect();
-        let otherwise = |i: usize| {
+        let later = |i: usize, differs: fn(&Word, &Word) -> bool| {
             let mut later = said[i + 1..].iter();
-            later.any(|(wanted, word)| *wanted == said[i].0 && *word != said[i].1)
+            later.any(|(wanted, word)| *wanted == said[i].0 && differs(word, said[i].1))
+        };
+        let otherwise = |i: usize| later(i, |one, other| one.syllables != other.syllables);
+        let elsewhere = |i: usize| later(i, |one, other| one.source != other.source);
+        let alike = |i: usize| {
+            later(i, |one, other| one.source != other.source && one.syllables == other.syllables)
         };
         let found = |i: usize| {
             let mut later = sheet.wanted.iter().zip(&sheet.places).skip(i);
@@ -237,6 +242,8 @@ rows! { pub ROWS:
         "utterance that saw one list of entries" => sheet.parts == 1,
         "utterance that saw several" => sheet.parts > 1,
         "word that is said otherwise the second time" => (0..words).any(otherwise),
+        "word of another source the second time" => (0..words).any(elsewhere),
+        "word of another source that is said alike" => (0..words).any(alike),
         "word that tells a place, then is found" => (0..words).any(found),
         "text that stops behind lines taken, then a word" => sheet.behind_stop,
     ]

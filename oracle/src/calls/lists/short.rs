@@ -41,6 +41,20 @@ fn marked() -> [Step; 5] {
     acts.map(|act| Step { act, broken: false })
 }
 
+/// A word of each source but the runtime entries, and entries by which they are said alike.
+fn alike() -> [Step; 7] {
+    let acts = [
+        Act::NewSheet,
+        say("a", ""),
+        say(",", ""),
+        say("#", ""),
+        add("a", "", "ey1"),
+        add(",", "", ""),
+        add("#", "", ""),
+    ];
+    acts.map(|act| Step { act, broken: false })
+}
+
 /// Exact entries and ordinary ones of one letter, by entry and by text, and words that they change.
 fn exact() -> [Step; 8] {
     let exact = |word, tag, phones| Act::AddEntry(store_edges::exact(word, tag, phones));
@@ -107,10 +121,12 @@ pub fn inputs() -> Vec<Input> {
     broken[2].broken = true;
     broken[3].broken = true;
     let marked = words::every(&marked(), 4).into_iter().map(|steps| list(steps, 2, 40 * ITEM));
+    let alike = words::every(&alike(), 4).into_iter().map(|steps| list(steps, 3, 40 * ITEM));
     let halves = words::every(&halves(), 4).into_iter().enumerate();
     let halves = halves.map(|(i, steps)| list(steps, [3, 2, 1][i % 3], 40 * ITEM));
     let exact = words::every(&exact(), 4).into_iter().enumerate();
     let exact = exact.map(|(i, steps)| list(steps, [4, 3, 2][i % 3], 40 * ITEM));
     let ends = [list(steps(&full), 1, LARGEST), list(broken, 4, 40 * ITEM)];
-    [every, lengths, ends.into(), marked.collect(), halves.collect(), exact.collect()].concat()
+    let others = marked.chain(alike).chain(halves).chain(exact);
+    [every, lengths, ends.into(), others.collect()].concat()
 }

@@ -56,7 +56,7 @@ impl State {
     }
 }
 
-/// A reading as text: each word with its syllables, then the phones forwards and backwards.
+/// A reading as text: each word with its source and its syllables, then the phones forwards and backwards.
 fn told(reading: &Reading) -> String {
     let list = |phones: &[Vec<u8>]| {
         let phones: Vec<String> = phones.iter().map(|phone| notation::text(phone)).collect();
@@ -64,7 +64,8 @@ fn told(reading: &Reading) -> String {
     };
     let syllable = |one: &Syllable| format!(" {}({})", one.stress, list(&one.phones));
     let word = |word: &Word| {
-        notation::text(&word.text) + &word.syllables.iter().map(syllable).collect::<String>()
+        let syllables: String = word.syllables.iter().map(syllable).collect();
+        format!("{} of {}{syllables}", notation::text(&word.text), word.source)
     };
     let words: Vec<String> = reading.words.iter().map(word).collect();
     let (forwards, backwards) = (list(&reading.forwards), list(&reading.backwards));

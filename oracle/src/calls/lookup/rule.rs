@@ -11,6 +11,18 @@ pub struct Origin {
     pub phones: Vec<Vec<u8>>,
 }
 
+impl Origin {
+    /// The source's number, which lookup tells and a word's item keeps.
+    pub fn source(&self) -> u8 {
+        match self.row {
+            "runtime" | "runtime, exact" => 1,
+            "addenda" => 2,
+            "compiled" => 3,
+            _ => sources::LETTERS,
+        }
+    }
+}
+
 /// What is looked for, a word and a tag, "0" for any; and what the addenda and the compiled entries have of it.
 pub struct Sought<'a> {
     lexicon: &'a Lexicon,

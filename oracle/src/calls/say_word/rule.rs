@@ -73,6 +73,16 @@ rows! { pub ROWS:
         "compiled: '#' in the word" => marked && source == "compiled",
     ]
 
+    /// The source of an accepted word that has no phones.
+    silent(origin: &Origin) {
+        let is = |source: u8| origin.phones.is_empty() && origin.source() == source;
+    } [
+        "runtime: no phones" => is(1),
+        "addenda: no phones" => is(2),
+        "compiled: no phones" => is(3),
+        "letters: no phones" => is(sources::LETTERS),
+    ]
+
     /// Which sections are refused by 1, by what lookup says without the letter trees.
     by_1(found: &Result<Option<Origin>, u32>) [
         "1: lexicon" => matches!(found, Err(1)),

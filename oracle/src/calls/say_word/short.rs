@@ -47,7 +47,7 @@ fn short_lists() -> Vec<Input> {
     let adds: Vec<Add> = REHEARSED.split(',').enumerate().map(add).collect();
     let empty = Scene::of(Lexicon::of(&names, &rows), stores::new(adds.len() + 1, 0));
     let sections = without_word(empty.with_store(empty.grown(&adds)), one_leaf(b"x"));
-    let before = sheet_edges::word("z", &["1 z iy"]);
+    let before = sheet_edges::word("z", 4, &["1 z iy"]);
     let sheets = [new_sheet(9 * ITEM), sheet_edges::sheet(&in_order(&[before]), 20 * ITEM, 0)];
     let compiled = rows.iter().zip(sheets.iter().cycle());
     let compiled = compiled.map(|(row, sheet)| input(&sections, sheet, &row.word, "v"));
@@ -67,7 +67,7 @@ fn exact_lengths() -> Vec<Input> {
     let rows = compiled.iter().zip(lists).map(|((word, _), list)| row(word, b'n', list));
     let scene = Scene::of(Lexicon::of(&["ae1", "t"], &rows.collect::<Vec<_>>()), stores::new(1, 0));
     let sections = without_word(scene, one_leaf(b"ey1-t"));
-    let filled = |items: usize| in_order(&vec![sheet_edges::word("w", &[]); items]);
+    let filled = |items: usize| in_order(&vec![sheet_edges::word("w", 2, &[]); items]);
     let about = each! {
         for &(word, need) in &words;
         for used in [0, 1, 7];

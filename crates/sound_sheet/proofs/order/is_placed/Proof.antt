@@ -10,7 +10,7 @@ use mathlib.Core.Bool.{true, false, not, _&&_}
 use lib.Dec.{eqb, leb}
 use lib.ListN.{length}
 use Rattle.records.specs.Records.{recordAt, length-recordAt}
-use Rattle.items.specs.Item.{isItem}
+use Rattle.items_spec.specs.Item.{isItem}
 use Rattle.utterance_spec.specs.Sheet.{used, isPlaced}
 use Rattle.sound_sheet.proofs.order.is_placed.Tie as tie
 

@@ -11,7 +11,7 @@ use lib.Dec.{leb}
 use lib.ListN.{length}
 use Rattle.texts.specs.Choice.{both-true}
 use Rattle.records.specs.Records.{recordAt, length-recordAt}
-use Rattle.items.specs.Item.{isHead}
+use Rattle.items_spec.specs.Item.{isHead}
 use Rattle.utterance_spec.specs.Sheet.{at, used, items, isSheetLength, isParent, isSound}
 use Rattle.utterance_spec.specs.Laws.Turns.{ordered-sound}
 use Rattle.sound_sheet.proofs.sound.is_sound.Tie as tie

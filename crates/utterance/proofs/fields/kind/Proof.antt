@@ -1,7 +1,7 @@
 -- `utterance::kind` meets its contract: the byte at an item's start. Assumes nothing.
 use borrow.Author.Needs.{needs}
 use Rattle.utterance.proofs.fields.kind.Statement.{statement}
-use Rattle.items.specs.Item.{itemOf}
+use Rattle.items_spec.specs.Item.{itemOf}
 use Rattle.records.specs.Records.{byte-of}
 use Rattle.utterance_spec.specs.Sheet.{at}
 use mathlib.Core.Path.{_∙_, sym, _≡_}

@@ -1,7 +1,7 @@
 -- `utterance::parent` meets its contract: the field at byte 8 of an item. Assumes nothing.
 use borrow.Author.Needs.{needs}
 use Rattle.utterance.proofs.fields.parent.Statement.{statement}
-use Rattle.items.specs.Item.{itemOf}
+use Rattle.items_spec.specs.Item.{itemOf}
 use Rattle.utterance_spec.specs.Sheet.{at}
 use Rattle.utterance.proofs.fields.parent.Tie as tie
 

@@ -1,7 +1,7 @@
 -- `utterance::inside::parent` meets its contract: the field at byte 8 of an item inside. Assumes nothing.
 use borrow.Author.Needs.{needs}
 use Rattle.utterance.proofs.inside.parent.Statement.{statement}
-use Rattle.items.specs.Item.{itemOf}
+use Rattle.items_spec.specs.Item.{itemOf}
 use Rattle.utterance_spec.specs.Sheet.{at}
 use Rattle.utterance.proofs.inside.parent.Tie as tie
 

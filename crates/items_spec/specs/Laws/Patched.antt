@@ -11,7 +11,7 @@ use lib.Seq.{getD-set-other, drop-set-lt}
 use borrow.Author.Tests.{eqb-true, eqb-false}
 use Rattle.texts.specs.Choice.{if_then_else_, cases}
 use Rattle.records.specs.Fields.{u16At, put16, u16-put-same, u16-put-other}
-use Rattle.items.specs.Item.{itemOf, isClean}
+use Rattle.items_spec.specs.Item.{itemOf, isClean}
 
 -- a byte that it does not cover, and all bytes behind it
 module _ (r : List ℕ) (o v : ℕ) where

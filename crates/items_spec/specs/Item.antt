@@ -1,4 +1,4 @@
--- 01, Store and sheet: an item of the sheet, 64 bytes, and what an item of each kind may be.
+-- 01, Store and sheet, and 02, S-6: an item of the sheet, 64 bytes, and what an item of each kind may be.
 -- Assumes nothing.
 use Prim.Native.Nat.{ℕ, _+_, _-_, _%_, _/_}
 use mathlib.Core.Bool.{Bool, _&&_, _||_}
@@ -10,7 +10,8 @@ use Rattle.texts.specs.Lists.{every}
 use Rattle.texts.specs.Text.{ascii, is, isWord}
 use Rattle.records.specs.Fields.{u16At}
 
--- an item: its kind (1 word, 2 syllable, 3 phone), stress, next sibling, first and last child, parent, the phones before and behind it, two bytes that are 0 as yet, and its text
+-- an item: its kind (1 word, 2 syllable, 3 phone), stress, next sibling, first and last child, parent, the phones before and behind it,
+-- a byte that is 0 as yet, a word's source, and its text
 pub record Item : Type 0 where
   pub kind : ℕ
   pub stress : ℕ
@@ -28,7 +29,8 @@ pub record Item : Type 0 where
 abbrev pub two : ℕ → List ℕ → List ℕ
 two v rest = v % 256 ∷ v / 256 ∷ rest
 
--- its 64 bytes: kind 0, stress 1, next sibling 2–3, first child 4–5, last child 6–7, parent 8–9, previous phone 10–11, next phone 12–13, 14, 15, text length 16, text from 17; zeros past the text
+-- its 64 bytes: kind 0, stress 1, next sibling 2–3, first child 4–5, last child 6–7, parent 8–9, previous phone 10–11, next phone 12–13,
+-- 14, source 15, text length 16, text from 17; zeros past the text
 unfoldable pub item : Item → List ℕ
 item i =
     i .kind ∷ i .stress ∷ two (i .next) (two (i .first) (two (i .last) (two (i .parent) (two (i .prev) (two (i .follow)
@@ -55,25 +57,30 @@ itemOf r =
 unfoldable pub isClean : List ℕ → Bool
 isClean r = leb (getD r 16 0) 47 && every (is 0) (drop (17 + getD r 16 0) r)
 
--- no byte of a document that is still to come
-abbrev pub isPlain : Item → Bool
-isPlain i = eqb (i .mark) 0 && eqb (i .source) 0
+-- where a word came from (02, S-6): 1 runtime, 2 addenda, 3 compiled, 4 letter trees
+unfoldable pub isSource : ℕ → Bool
+isSource s = leb 1 s && leb s 4
 
--- a word: its text at most 47 bytes, each below 128; no stress, and no place among the phones
+-- a word: its source, and its text of at most 47 bytes, each below 128; no stress, and no place among the phones
 unfoldable pub isWordItem : Item → Bool
-isWordItem i = eqb (i .kind) 1 && eqb (i .stress) 0 && eqb (i .prev) 0 && eqb (i .follow) 0 && isPlain i && isWord (i .text)
+isWordItem i =
+    eqb (i .kind) 1 && eqb (i .stress) 0 && eqb (i .prev) 0 && eqb (i .follow) 0 && eqb (i .mark) 0 && isSource (i .source) && isWord (i .text)
 
 -- a syllable: stress "0" or "1", no text
 unfoldable pub isSyllableItem : Item → Bool
-isSyllableItem i = eqb (i .kind) 2 && (eqb (i .stress) 48 || eqb (i .stress) 49) && eqb (i .prev) 0 && eqb (i .follow) 0 && isPlain i && eqb (length (i .text)) 0
+isSyllableItem i =
+    eqb (i .kind) 2 && (eqb (i .stress) 48 || eqb (i .stress) 49) && eqb (i .prev) 0 && eqb (i .follow) 0
+    && eqb (i .mark) 0 && eqb (i .source) 0 && eqb (length (i .text)) 0
 
 -- a phone: its text at most 15 bytes, each below 128; no stress, no children
 unfoldable pub isPhoneItem : Item → Bool
-isPhoneItem i = eqb (i .kind) 3 && eqb (i .stress) 0 && eqb (i .first) 0 && eqb (i .last) 0 && isPlain i && leb (length (i .text)) 15 && ascii (i .text)
+isPhoneItem i =
+    eqb (i .kind) 3 && eqb (i .stress) 0 && eqb (i .first) 0 && eqb (i .last) 0
+    && eqb (i .mark) 0 && eqb (i .source) 0 && leb (length (i .text)) 15 && ascii (i .text)
 
 -- item 0: first and last word stand as its children, used as its parent, the last and the first phone before and behind it
 unfoldable pub isHeadItem : Item → Bool
-isHeadItem i = eqb (i .kind) 0 && eqb (i .stress) 0 && eqb (i .next) 0 && isPlain i && eqb (length (i .text)) 0
+isHeadItem i = eqb (i .kind) 0 && eqb (i .stress) 0 && eqb (i .next) 0 && eqb (i .mark) 0 && eqb (i .source) 0 && eqb (length (i .text)) 0
 
 unfoldable pub fits : Item → Bool
 fits i = if eqb (i .kind) 1 then isWordItem i else if eqb (i .kind) 2 then isSyllableItem i else isPhoneItem i

@@ -9,38 +9,43 @@ use mathlib.Core.List.{List}
 use lib.Dec.{eqb, leb}
 use lib.ListN.{length, getD, take, drop, length-drop}
 use lib.Seq.{length-take-le}
-use borrow.Author.Tests.{eqb-true, eq-eqb, ne-eqb, leb-true, le-leb}
+use borrow.Author.Tests.{eqb-true, eqb-false, eq-eqb, ne-eqb, leb-true, le-leb}
 use Rattle.texts.specs.Choice.{both-true, cases}
 use Rattle.texts.specs.Lists.{every}
 use Rattle.texts.specs.Text.{is, ascii, isWord}
 use Rattle.records.specs.Fields.{u16At}
 use Rattle.records.specs.Between.{Zero, rest-zero, zero-rest, text-low, low-text, byte-zero, join-zero, u16-zero, zero-u16}
-use Rattle.items.specs.Item.{itemOf, isClean, isPlain, isWordItem, isSyllableItem, isPhoneItem, isHeadItem, fits, isItem, isHead}
-use Rattle.items.specs.SoundItem.{SoundWord, SoundSyllable, SoundPhone, SoundItem, word, syllable, phone, SoundHead}
+use Rattle.items_spec.specs.Item.{itemOf, isClean, isSource, isWordItem, isSyllableItem, isPhoneItem, isHeadItem, fits, isItem, isHead}
+use Rattle.items_spec.specs.SoundItem.{SoundSource, runtime, addenda, compiled, letterTrees, SoundWord, SoundSyllable, SoundPhone}
+use Rattle.items_spec.specs.SoundItem.{SoundItem, word, syllable, phone, SoundHead}
+use Rattle.items_spec.specs.Laws.Fields.{word-fields, syllable-fields, phone-fields, head-fields}
 
--- the two bytes that no field has
+-- a word's source
+source-told : (s : ℕ) → isSource s ≡ true → SoundSource s
+unfolding isSource
+source-told s h =
+    let b = both-true (leb 1 s) (leb s 4) h in
+    let from = leb-true 1 s (b .0) in
+    let to = leb-true s 4 (b .1) in
+    cases (eqb s 1) (λ e. runtime (eqb-true s 1 e))
+    (λ n₁. cases (eqb s 2) (λ e. addenda (eqb-true s 2 e))
+    (λ n₂. cases (eqb s 3) (λ e. compiled (eqb-true s 3 e))
+    (λ n₃. letterTrees (omega (arith, from, to, eqb-false s 1 n₁, eqb-false s 2 n₂, eqb-false s 3 n₃)))))
+
+told-source : (s : ℕ) → SoundSource s → isSource s ≡ true
+unfolding isSource
+told-source s (runtime e) = rw e
+told-source s (addenda e) = rw e
+told-source s (compiled e) = rw e
+told-source s (letterTrees e) = rw e
+
+-- two u16s in a row that are zero, and one
 module _ (r : List ℕ) where
-  plain-told : isPlain (itemOf r) ≡ true → Zero r 14 16
-  unfolding itemOf
-  plain-told h =
-      let b = both-true (eqb (getD r 14 0) 0) (eqb (getD r 15 0) 0) h in
-      join-zero r 14 15 16 (byte-zero r 14 (eqb-true (getD r 14 0) 0 (b .0))) (byte-zero r 15 (eqb-true (getD r 15 0) 0 (b .1)))
-
-  told-plain : Zero r 14 16 → isPlain (itemOf r) ≡ true
-  unfolding itemOf
-  told-plain z =
-      rw (eq-eqb (getD r 14 0) 0 (z 14 (omega arith) (omega arith)), eq-eqb (getD r 15 0) 0 (z 15 (omega arith) (omega arith)))
-
-  -- a u16 that is tested
-  link-told : (k : ℕ) → eqb (u16At r k) 0 ≡ true → Zero r k (k + 2)
-  link-told k h = u16-zero r k (eqb-true (u16At r k) 0 h)
+  links-told : (k : ℕ) → u16At r k ≡ 0 → u16At r (k + 2) ≡ 0 → Zero r k (k + 4)
+  links-told k p q = join-zero r k (k + 2) (k + 4) (u16-zero r k p) (λ i lo hi. u16-zero r (k + 2) q i lo (omega arith))
 
   told-link : (k : ℕ) → Zero r k (k + 2) → eqb (u16At r k) 0 ≡ true
   told-link k z = eq-eqb (u16At r k) 0 (zero-u16 r k z)
-
-  -- two of them in a row
-  links-told : (k : ℕ) → eqb (u16At r k) 0 ≡ true → eqb (u16At r (k + 2)) 0 ≡ true → Zero r k (k + 4)
-  links-told k p q = join-zero r k (k + 2) (k + 4) (link-told k p) (λ i lo hi. link-told (k + 2) q i lo (omega arith))
 
   told-links : (k : ℕ) → Zero r k (k + 4) → (eqb (u16At r k) 0 ≡ true) × (eqb (u16At r (k + 2)) 0 ≡ true)
   told-links k z = (told-link k (λ i lo hi. z i lo (omega arith)), told-link (k + 2) (λ i lo hi. z i (omega arith) (omega arith)))
@@ -61,11 +66,11 @@ module _ (r : List ℕ) (size : length r ≡ 64) where
   text-size : getD r 16 0 ≤ 47 → length (take (getD r 16 0) (drop 17 r)) ≡ getD r 16 0
   text-size h = length-take-le (getD r 16 0) (drop 17 r) (rw length-drop (omega arith))
 
-  no-text : isClean r ≡ true → eqb (length (take (getD r 16 0) (drop 17 r))) 0 ≡ true → Zero r 16 64
+  no-text : isClean r ≡ true → length (take (getD r 16 0) (drop 17 r)) ≡ 0 → Zero r 16 64
   no-text c e =
       let k = clean-told c in
       let l = text-size (k .0) in
-      let z : getD r 16 0 ≡ 0 = omega (arith, eqb-true (length (take (getD r 16 0) (drop 17 r))) 0 e) in
+      let z : getD r 16 0 ≡ 0 = omega (arith, e) in
       join-zero r 16 17 64 (byte-zero r 16 z) (λ i lo hi. k .1 i (omega arith) hi)
 
   text-none : Zero r 16 64 → (isClean r ≡ true) × (eqb (length (take (getD r 16 0) (drop 17 r))) 0 ≡ true)
@@ -76,28 +81,20 @@ module _ (r : List ℕ) (size : length r ≡ 64) where
 
   -- an item of each kind
   word-told : isClean r ≡ true → isWordItem (itemOf r) ≡ true → SoundWord r
-  unfolding isWordItem itemOf isWord
+  unfolding itemOf isWord
   word-told c h =
       let t = take (getD r 16 0) (drop 17 r) in
-      let plain = isPlain (itemOf r) in
-      let kind = eqb (getD r 0 0) 1 in
-      let stress = eqb (getD r 1 0) 0 in
-      let prev = eqb (u16At r 10) 0 in
-      let follow = eqb (u16At r 12) 0 in
-      let a = both-true (kind && stress && prev && follow && plain) (isWord t) h in
-      let b = both-true (kind && stress && prev && follow) plain (a .0) in
-      let d = both-true (kind && stress && prev) follow (b .0) in
-      let e = both-true (kind && stress) prev (d .0) in
-      let f = both-true kind stress (e .0) in
-      let w = both-true (leb (length t) 47) (ascii t) (a .1) in
+      let f = word-fields (itemOf r) h in
+      let low = both-true (leb (length t) 47) (ascii t) (f .text) .1 in
       let k = clean-told c in
       let short = k .0 in
       record {
-        kind = eqb-true (getD r 0 0) 1 (f .0);
-        noStress = eqb-true (getD r 1 0) 0 (f .1);
-        noPhoneLinks = links-told r 10 (e .1) (d .1);
-        unnamed = plain-told r (b .1);
-        text = record { short = short; low = text-low r 17 (getD r 16 0) (omega arith) (w .1); pastText = k .1 };
+        kind = f .kind;
+        noStress = f .stress;
+        noPhoneLinks = links-told r 10 (f .prev) (f .follow);
+        unnamed = f .mark;
+        source = source-told (getD r 15 0) (f .source);
+        text = record { short = short; low = text-low r 17 (getD r 16 0) (omega arith) low; pastText = k .1 };
       }
 
   told-word : SoundWord r → (isClean r ≡ true) × (isWordItem (itemOf r) ≡ true)
@@ -112,7 +109,8 @@ module _ (r : List ℕ) (size : length r ≡ 64) where
           eq-eqb (getD r 1 0) 0 (s .noStress),
           k .0,
           k .1,
-          told-plain r (s .unnamed),
+          eq-eqb (getD r 14 0) 0 (s .unnamed),
+          told-source (getD r 15 0) (s .source),
           l,
           le-leb (getD r 16 0) 47 short,
           low-text r 17 (getD r 16 0) (omega arith) (s .text .low),
@@ -127,25 +125,16 @@ module _ (r : List ℕ) (size : length r ≡ 64) where
   told-stress (inr e) = rw e
 
   syllable-told : isClean r ≡ true → isSyllableItem (itemOf r) ≡ true → SoundSyllable r
-  unfolding isSyllableItem itemOf
+  unfolding itemOf
   syllable-told c h =
-      let t = take (getD r 16 0) (drop 17 r) in
-      let plain = isPlain (itemOf r) in
-      let kind = eqb (getD r 0 0) 2 in
-      let stress = eqb (getD r 1 0) 48 || eqb (getD r 1 0) 49 in
-      let prev = eqb (u16At r 10) 0 in
-      let follow = eqb (u16At r 12) 0 in
-      let a = both-true (kind && stress && prev && follow && plain) (eqb (length t) 0) h in
-      let b = both-true (kind && stress && prev && follow) plain (a .0) in
-      let d = both-true (kind && stress && prev) follow (b .0) in
-      let e = both-true (kind && stress) prev (d .0) in
-      let f = both-true kind stress (e .0) in
+      let f = syllable-fields (itemOf r) h in
       record {
-        kind = eqb-true (getD r 0 0) 2 (f .0);
-        stress = stress-told (f .1);
-        noPhoneLinks = links-told r 10 (e .1) (d .1);
-        unnamed = plain-told r (b .1);
-        noText = no-text c (a .1);
+        kind = f .kind;
+        stress = stress-told (f .stress);
+        noPhoneLinks = links-told r 10 (f .prev) (f .follow);
+        unnamed = f .mark;
+        noSource = f .source;
+        noText = no-text c (f .text);
       }
 
   told-syllable : SoundSyllable r → (isClean r ≡ true) × (isSyllableItem (itemOf r) ≡ true)
@@ -153,33 +142,24 @@ module _ (r : List ℕ) (size : length r ≡ 64) where
   told-syllable s =
       let k = told-links r 10 (s .noPhoneLinks) in
       let t = text-none (s .noText) in
-      (t .0, rw (eq-eqb (getD r 0 0) 2 (s .kind), told-stress (s .stress), k .0, k .1, told-plain r (s .unnamed), t .1))
+      let m = eq-eqb (getD r 14 0) 0 (s .unnamed) in
+      (t .0, rw (eq-eqb (getD r 0 0) 2 (s .kind), told-stress (s .stress), k .0, k .1, m, eq-eqb (getD r 15 0) 0 (s .noSource), t .1))
 
   phone-told : isClean r ≡ true → isPhoneItem (itemOf r) ≡ true → SoundPhone r
-  unfolding isPhoneItem itemOf
+  unfolding itemOf
   phone-told c h =
-      let t = take (getD r 16 0) (drop 17 r) in
-      let plain = isPlain (itemOf r) in
-      let kind = eqb (getD r 0 0) 3 in
-      let stress = eqb (getD r 1 0) 0 in
-      let first = eqb (u16At r 4) 0 in
-      let last = eqb (u16At r 6) 0 in
-      let z = both-true (kind && stress && first && last && plain && leb (length t) 15) (ascii t) h in
-      let a = both-true (kind && stress && first && last && plain) (leb (length t) 15) (z .0) in
-      let b = both-true (kind && stress && first && last) plain (a .0) in
-      let d = both-true (kind && stress && first) last (b .0) in
-      let e = both-true (kind && stress) first (d .0) in
-      let f = both-true kind stress (e .0) in
+      let f = phone-fields (itemOf r) h in
       let k = clean-told c in
       let most = k .0 in
       let l = text-size most in
-      let m = leb-true (length t) 15 (a .1) in
+      let m = f .short in
       record {
-        kind = eqb-true (getD r 0 0) 3 (f .0);
-        noStress = eqb-true (getD r 1 0) 0 (f .1);
-        noChildren = links-told r 4 (e .1) (d .1);
-        unnamed = plain-told r (b .1);
-        text = record { short = omega arith; low = text-low r 17 (getD r 16 0) (omega arith) (z .1); pastText = k .1 };
+        kind = f .kind;
+        noStress = f .stress;
+        noChildren = links-told r 4 (f .first) (f .last);
+        unnamed = f .mark;
+        noSource = f .source;
+        text = record { short = omega arith; low = text-low r 17 (getD r 16 0) (omega arith) (f .low); pastText = k .1 };
       }
 
   told-phone : SoundPhone r → (isClean r ≡ true) × (isPhoneItem (itemOf r) ≡ true)
@@ -194,7 +174,8 @@ module _ (r : List ℕ) (size : length r ≡ 64) where
           eq-eqb (getD r 1 0) 0 (s .noStress),
           k .0,
           k .1,
-          told-plain r (s .unnamed),
+          eq-eqb (getD r 14 0) 0 (s .unnamed),
+          eq-eqb (getD r 15 0) 0 (s .noSource),
           l,
           le-leb (getD r 16 0) 15 short,
           low-text r 17 (getD r 16 0) (omega arith) (s .text .low),
@@ -220,23 +201,13 @@ module _ (r : List ℕ) (size : length r ≡ 64) where
 
   -- and of item 0
   pub head-sound : isHead r ≡ true → SoundHead r
-  unfolding isHead isHeadItem itemOf
+  unfolding isHead itemOf
   head-sound h =
-      let t = take (getD r 16 0) (drop 17 r) in
-      let plain = isPlain (itemOf r) in
-      let kind = eqb (getD r 0 0) 0 in
-      let stress = eqb (getD r 1 0) 0 in
-      let next = eqb (u16At r 2) 0 in
       let a = both-true (isClean r) (isHeadItem (itemOf r)) h in
-      let b = both-true (kind && stress && next && plain) (eqb (length t) 0) (a .1) in
-      let c = both-true (kind && stress && next) plain (b .0) in
-      let d = both-true (kind && stress) next (c .0) in
-      let e = both-true kind stress (d .0) in
+      let f = head-fields (itemOf r) (a .1) in
       record {
-        before =
-            join-zero r 0 1 4 (byte-zero r 0 (eqb-true (getD r 0 0) 0 (e .0)))
-            (join-zero r 1 2 4 (byte-zero r 1 (eqb-true (getD r 1 0) 0 (e .1))) (link-told r 2 (d .1)));
-        behind = join-zero r 14 16 64 (plain-told r (c .1)) (no-text (a .0) (b .1));
+        before = join-zero r 0 1 4 (byte-zero r 0 (f .kind)) (join-zero r 1 2 4 (byte-zero r 1 (f .stress)) (u16-zero r 2 (f .next)));
+        behind = join-zero r 14 15 64 (byte-zero r 14 (f .mark)) (join-zero r 15 16 64 (byte-zero r 15 (f .source)) (no-text (a .0) (f .text)));
       }
 
   pub sound-head : SoundHead r → isHead r ≡ true
@@ -248,6 +219,7 @@ module _ (r : List ℕ) (size : length r ≡ 64) where
         eq-eqb (getD r 0 0) 0 (s .before 0 (omega arith) (omega arith)),
         eq-eqb (getD r 1 0) 0 (s .before 1 (omega arith) (omega arith)),
         told-link r 2 (λ i lo hi. s .before i (omega arith) hi),
-        told-plain r (λ i lo hi. s .behind i lo (omega arith)),
+        eq-eqb (getD r 14 0) 0 (s .behind 14 (omega arith) (omega arith)),
+        eq-eqb (getD r 15 0) 0 (s .behind 15 (omega arith) (omega arith)),
         t .1,
       )

@@ -1,9 +1,19 @@
--- `appending::put_item` meets its contract: the item is made in 64 bytes of its own and pasted whole. Assumes nothing.
+-- `utterance::writing::put_item` meets its contract: the item is made in 64 bytes of its own and pasted whole. Assumes nothing.
 use borrow.Author.Needs.{needs}
-use Rattle.appending.proofs.put_item.Statement.{statement}
-use Rattle.items.specs.Item.{Item}
-use Rattle.appending.specs.Laws.Putting.{put-written}
-use Rattle.appending.proofs.put_item.Tie as tie
+use Rattle.utterance.proofs.writing.put_item.Statement.{statement}
+use Prim.Native.Nat.{ℕ, _*_, _≤_}
+use mathlib.Core.Path.{_≡_, _∙_}
+use mathlib.Core.List.{List}
+use lib.ListN.{length}
+use lib.Seq.{paste}
+use Rattle.records.specs.Records.{putRecord}
+use Rattle.items_spec.specs.Item.{Item, item}
+use Rattle.items_spec.specs.Laws.Written.{length-item}
+use Rattle.utterance.proofs.writing.put_item.Tie as tie
+
+put-written : (b c d : List ℕ) (n : ℕ) (i : Item) → length (i .text) ≤ 47 → c ≡ item i → d ≡ paste b (64 * n) c (length c) → d ≡ putRecord 64 b n (item i)
+unfolding putRecord
+put-written b c d n i h ec ed = let l : length c ≡ 64 = rw ec (length-item i h) in ed ∙ rw (l, ec)
 
 slice-aggregate-write : tie.Need-slice-aggregate-write
 slice-aggregate-write c = search needs
@@ -26,7 +36,7 @@ same-length c = search needs
 returns : tie.Need-returns
 returns c =
     let a = c .before .before .before .before .before .before .before .before .before .before .args in
-    let i : Item = record { kind = a .kind; stress = a .stress; next = a .next; first = a .first; last = a .last; parent = a .parent; prev = a .prev; follow = a .follow; mark = 0; source = 0; text = a .text .now } in
+    let i : Item = record { kind = a .kind; stress = a .stress; next = a .next; first = a .first; last = a .last; parent = a .parent; prev = a .prev; follow = a .follow; mark = 0; source = a .source; text = a .text .now } in
     put-written (a .sheet .now) (c .before .before .before .before .before .before .write .last .0) (c .before .before .copy-in .last .0) (a .n) i (c .before .before .before .before .before .before .before .before .before .before .pre .1) (c .before .before .before .before .before .before .write .ensures) (c .before .before .copy-in .ensures)
 
 pub put-item-spec : {M : Type 1} → statement M

@@ -1,4 +1,5 @@
--- 01, Store and sheet: a sound item in the paper's words, byte by byte and kind by kind, and item 0. `Decided` shows that `isItem` and `isHead` say the same.
+-- 01, Store and sheet, and 02, S-6: a sound item in the papers' words, byte by byte and kind by kind, and item 0. `Decided` shows that `isItem`
+-- and `isHead` say the same.
 -- Assumes nothing.
 use Prim.Native.Nat.{ℕ, _+_, _≤_}
 use mathlib.Core.Path.{_≡_}
@@ -13,28 +14,38 @@ pub record SoundText (r : List ℕ) (most : ℕ) : Type 0 where
   pub low : Low r 17 (17 + getD r 16 0)
   pub pastText : Zero r (17 + getD r 16 0) 64
 
--- a word: kind 1, a text of at most 47 bytes; stress 1, the phone links 10–13, and 14 and 15, which no field has, are zero
+-- where a word came from
+pub data SoundSource (s : ℕ) : Type 0 where
+  runtime : s ≡ 1 → SoundSource s
+  addenda : s ≡ 2 → SoundSource s
+  compiled : s ≡ 3 → SoundSource s
+  letterTrees : s ≡ 4 → SoundSource s
+
+-- a word: kind 1, its source at 15, a text of at most 47 bytes; stress 1, the phone links 10–13, and 14, which no field has, are zero
 pub record SoundWord (r : List ℕ) : Type 0 where
   pub kind : getD r 0 0 ≡ 1
   pub noStress : getD r 1 0 ≡ 0
   pub noPhoneLinks : Zero r 10 14
-  pub unnamed : Zero r 14 16
+  pub unnamed : getD r 14 0 ≡ 0
+  pub source : SoundSource (getD r 15 0)
   pub text : SoundText r 47
 
--- a syllable: kind 2, stress "0" or "1"; it has no phone links and no text
+-- a syllable: kind 2, stress "0" or "1"; it has no phone links, no source and no text
 pub record SoundSyllable (r : List ℕ) : Type 0 where
   pub kind : getD r 0 0 ≡ 2
   pub stress : (getD r 1 0 ≡ 48) ⊎ (getD r 1 0 ≡ 49)
   pub noPhoneLinks : Zero r 10 14
-  pub unnamed : Zero r 14 16
+  pub unnamed : getD r 14 0 ≡ 0
+  pub noSource : getD r 15 0 ≡ 0
   pub noText : Zero r 16 64
 
--- a phone: kind 3, a text of at most 15 bytes; it has no stress and no children
+-- a phone: kind 3, a text of at most 15 bytes; it has no stress, no children and no source
 pub record SoundPhone (r : List ℕ) : Type 0 where
   pub kind : getD r 0 0 ≡ 3
   pub noStress : getD r 1 0 ≡ 0
   pub noChildren : Zero r 4 8
-  pub unnamed : Zero r 14 16
+  pub unnamed : getD r 14 0 ≡ 0
+  pub noSource : getD r 15 0 ≡ 0
   pub text : SoundText r 15
 
 -- an item is one of the three

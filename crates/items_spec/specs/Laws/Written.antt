@@ -10,7 +10,7 @@ use borrow.Author.Tests.{le-leb}
 use Rattle.texts.specs.Lists.{every}
 use Rattle.texts.specs.Text.{is}
 use Rattle.records.specs.Fields.{u16At}
-use Rattle.items.specs.Item.{Item, item, itemOf, isClean}
+use Rattle.items_spec.specs.Item.{Item, item, itemOf, isClean}
 
 pub length-item : (i : Item) → length (i .text) ≤ 47 → length (item i) ≡ 64
 unfolding item

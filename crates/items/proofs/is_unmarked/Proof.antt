@@ -1,9 +1,9 @@
--- `items::is_plain` meets its contract: bytes 14 and 15 are compared with zero. Assumes nothing.
+-- `items::is_unmarked` meets its contract: bytes 14 and 15 are compared with zero. Assumes nothing.
 use borrow.Author.Needs.{needs}
-use Rattle.items.proofs.is_plain.Statement.{statement}
+use Rattle.items.proofs.is_unmarked.Statement.{statement}
 use mathlib.Core.Path.{_∙_}
-use Rattle.items.specs.Item.{itemOf}
-use Rattle.items.proofs.is_plain.Tie as tie
+use Rattle.items_spec.specs.Item.{itemOf}
+use Rattle.items.proofs.is_unmarked.Tie as tie
 
 byte-at-requires : tie.Need-byte-at-requires
 byte-at-requires c κs = search needs
@@ -18,5 +18,5 @@ returns : tie.Need-returns
 unfolding itemOf
 returns c = c .both .ensures ∙ rw (c .before .before .byte-at .ensures, c .before .byte-at2 .ensures)
 
-pub is-plain-spec : {M : Type 1} → statement M
-is-plain-spec = tie.close (tie.spec byte-at-requires byte-at-requires-2 both-requires returns)
+pub is-unmarked-spec : {M : Type 1} → statement M
+is-unmarked-spec = tie.close (tie.spec byte-at-requires byte-at-requires-2 both-requires returns)

@@ -1,4 +1,5 @@
--- A word said with phones that fit may stand on a sheet: its syllables have phones, and a stress "0" or "1"; its phones have at most 15 bytes, all below 128.
+-- A word that was pronounced may stand on a sheet: it has a source, its syllables have phones, and a stress "0" or "1"; its phones have
+-- at most 15 bytes, all below 128.
 -- Assumes nothing.
 use Prim.Native.Nat.{ℕ, _-_}
 use native.Mathlib.Omega.{arith}
@@ -14,9 +15,13 @@ use Rattle.texts.specs.Text.{ascii, isWord, isPhone, ascii-take}
 use Rattle.phoneset.specs.Stress.{digits, isStressed, stress, bare}
 use Rattle.onsets.specs.Onsets.{onsets}
 use Rattle.syllabify.specs.Syllables.{marks, syllables, onFirst}
+use Rattle.items_spec.specs.Item.{isSource}
 use Rattle.utterance_spec.specs.Append.{isSyllable, isSaid}
-use Rattle.pipeline_spec.specs.Pronounced.{lastStress, sung, said}
-use Rattle.pipeline_spec.specs.Laws.Fits.{isStress, digit}
+use Rattle.slots_spec.specs.Slot.{Entry, fits}
+use Rattle.lts_spec.specs.Letters.{isTrees}
+use Rattle.compiled_spec.specs.Lexicon.{isLexicon}
+use Rattle.pipeline_spec.specs.Pronounced.{Sections, phones, pronounced, lastStress, sung, said}
+use Rattle.pipeline_spec.specs.Laws.Fits.{isStress, digit, pronounced-source, pronounced-fits}
 
 last-stress : (d : ℕ) (ps : List (List ℕ)) → isStress d ≡ true → isStress (lastStress d ps) ≡ true
 unfolding lastStress
@@ -74,6 +79,17 @@ unfolding every
 all-sung [] h = refl
 all-sung (g ∷ gs) h = let b = both-true (isGroup g) (every isGroup gs) h in rw (group-sung g (b .0)) (all-sung gs (b .1))
 
-pub phones-said : (word : List ℕ) (ps : List (List ℕ)) → isWord word ≡ true → every isPhone ps ≡ true → isSaid (said word ps) ≡ true
+phones-said : (word : List ℕ) (source : ℕ) (ps : List (List ℕ)) → isWord word ≡ true → isSource source ≡ true → every isPhone ps ≡ true
+    → isSaid (said word source ps) ≡ true
 unfolding isSaid said
-phones-said word ps w h = rw w (all-sung (syllables (marks onsets false (map (bare digits) ps)) ps) (groups (marks onsets false (map (bare digits) ps)) ps h))
+phones-said word source ps w s h =
+    let ms = marks onsets false (map (bare digits) ps) in
+    rw (w, s) (all-sung (syllables ms ps) (groups ms ps h))
+
+pub pronounced-stands : (c : Sections) (es : List Entry) (word tag : List ℕ) → every fits es ≡ true
+    → isLexicon (c .lexPhones) (c .lexIndex) ≡ true → isTrees (c .ltsPhones) (c .ltsIndex) (c .ltsModel) ≡ true → isWord word ≡ true
+    → (source place : ℕ) (ps : List (List ℕ)) → pronounced c es word tag ≡ phones source place ps → isSaid (said word source ps) ≡ true
+pronounced-stands c es word tag h lexicon trees w source place ps e =
+    let s = pronounced-source c es word tag h lexicon trees source place ps e in
+    let f = pronounced-fits c es word tag h lexicon trees source place ps e in
+    phones-said word source ps w s f

@@ -1,0 +1,1 @@
+// One item of the sheet, stated: definitions and laws, no functions. `items` computes them.
