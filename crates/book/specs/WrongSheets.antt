@@ -1,10 +1,14 @@
--- Sheets that tell no book, because reading or a chain of phones does not come to 0 within items 1 to used. Walked for `used` steps they would pass; with a 0 in the one place they do tell a book.
+-- Sheets that tell no book: reading or a chain of phones does not come to 0 within items 1 to used, though walked for `used` steps they would pass; or
+-- a word has no source (02, S-6). With the one byte put right each tells a book.
 -- Assumes nothing.
 use Prim.Native.Nat.{ℕ}
 use native.Mathlib.Omega.{arith}
 use mathlib.Core.Path.{_≡_, refl, sym, ap, _∙_, subst}
 use mathlib.Core.Logic.{_≢_}
+use mathlib.Core.Bool.{true}
 use mathlib.Core.List.{List, [], _∷_, reverse}
+use lib.ListN.{length}
+use Rattle.texts.specs.Choice.{never}
 use Rattle.texts.specs.Lists.{every}
 use Rattle.texts.specs.Text.{is, low, ascii, isWord}
 use Rattle.records.specs.Fields.{u16At}
@@ -15,8 +19,10 @@ use Rattle.items_spec.specs.Item.{itemOf, isClean, isSource, isWordItem, isHead
 use Rattle.syllabify.specs.Syllables.{vowels}
 use Rattle.utterance_spec.specs.Tree.{Word, WordAt, wordsAt, phonesAt, itemsAt, sibling, follow, prev, places}
 use Rattle.utterance_spec.specs.Sheet.{at, used, reading, isSheetLength, after, beyond, isParent, isSibling, isFull, isChained, isPlaced, walks, order, isSound}
+use Rattle.utterance_spec.specs.Sound.{Placed}
 use Rattle.utterance_spec.specs.Decided.{sound}
-use Rattle.book.specs.Claim.{Tells, tells}
+use Rattle.book.specs.WellCut.{WellCut}
+use Rattle.book.specs.Claim.{Tells, tells, one-telling}
 
 -- a sheet of no words: item 0, all of it 0 but for bytes 4 (first word), 10 (last phone) and 12 (first phone)
 abbrev pub noWords : ℕ → ℕ → ℕ → List ℕ
@@ -27,21 +33,21 @@ noWords first prev follow =
     ∷ 0 ∷ 0 ∷ 0 ∷ 0 ∷ 0 ∷ 0 ∷ 0 ∷ 0 ∷ 0 ∷ 0 ∷ 0 ∷ 0 ∷ 0 ∷ 0 ∷ 0 ∷ 0 ∷ []
 
 -- a sheet of one word, ",": in item 0 bytes 4 (first word), 6 (last word) and 8 (used); in item 1 bytes 64 (kind), 66 (next sibling),
--- 79 (source, the addenda), 80 (text length) and 81 (text)
-abbrev pub oneWord : ℕ → List ℕ
-oneWord next =
+-- 79 (source), 80 (text length) and 81 (text)
+abbrev pub oneWord : ℕ → ℕ → List ℕ
+oneWord next source =
     0 ∷ 0 ∷ 0 ∷ 0 ∷ 1 ∷ 0 ∷ 1 ∷ 0 ∷ 1 ∷ 0 ∷ 0 ∷ 0 ∷ 0 ∷ 0 ∷ 0 ∷ 0
     ∷ 0 ∷ 0 ∷ 0 ∷ 0 ∷ 0 ∷ 0 ∷ 0 ∷ 0 ∷ 0 ∷ 0 ∷ 0 ∷ 0 ∷ 0 ∷ 0 ∷ 0 ∷ 0
     ∷ 0 ∷ 0 ∷ 0 ∷ 0 ∷ 0 ∷ 0 ∷ 0 ∷ 0 ∷ 0 ∷ 0 ∷ 0 ∷ 0 ∷ 0 ∷ 0 ∷ 0 ∷ 0
     ∷ 0 ∷ 0 ∷ 0 ∷ 0 ∷ 0 ∷ 0 ∷ 0 ∷ 0 ∷ 0 ∷ 0 ∷ 0 ∷ 0 ∷ 0 ∷ 0 ∷ 0 ∷ 0
-    ∷ 1 ∷ 0 ∷ next ∷ 0 ∷ 0 ∷ 0 ∷ 0 ∷ 0 ∷ 0 ∷ 0 ∷ 0 ∷ 0 ∷ 0 ∷ 0 ∷ 0 ∷ 2
+    ∷ 1 ∷ 0 ∷ next ∷ 0 ∷ 0 ∷ 0 ∷ 0 ∷ 0 ∷ 0 ∷ 0 ∷ 0 ∷ 0 ∷ 0 ∷ 0 ∷ 0 ∷ source
     ∷ 1 ∷ 44 ∷ 0 ∷ 0 ∷ 0 ∷ 0 ∷ 0 ∷ 0 ∷ 0 ∷ 0 ∷ 0 ∷ 0 ∷ 0 ∷ 0 ∷ 0 ∷ 0
     ∷ 0 ∷ 0 ∷ 0 ∷ 0 ∷ 0 ∷ 0 ∷ 0 ∷ 0 ∷ 0 ∷ 0 ∷ 0 ∷ 0 ∷ 0 ∷ 0 ∷ 0 ∷ 0
     ∷ 0 ∷ 0 ∷ 0 ∷ 0 ∷ 0 ∷ 0 ∷ 0 ∷ 0 ∷ 0 ∷ 0 ∷ 0 ∷ 0 ∷ 0 ∷ 0 ∷ 0 ∷ 0 ∷ []
 
 -- that word, as a book has it
-abbrev pub comma : Word
-comma = record { text = 44 ∷ []; source = 2; syllables = [] }
+abbrev pub comma : ℕ → Word
+comma source = record { text = 44 ∷ []; source = source; syllables = [] }
 
 -- where no item is used, none is met
 none-met : (b : List ℕ) (ws : List WordAt) → used b ≡ 0 → All (Within (used b)) (itemsAt ws) → ws ≡ []
@@ -66,19 +72,19 @@ past-used words t =
     absurd (omega (arith, l))
 
 -- the only word is its own next sibling
-own-walked : reading (oneWord 1) ≡ comma ∷ []
+own-walked : reading (oneWord 1 2) ≡ comma 2 ∷ []
 unfolding reading places at itemOf recordAt u16At chain sibling
 own-walked = refl
 
-pub own-sibling : (words : List Word) → Tells (oneWord 1) words → ⊥
+pub own-sibling : (words : List Word) → Tells (oneWord 1 2) words → ⊥
 unfolding sibling at itemOf recordAt u16At
 own-sibling words t = go (t .places) (t .tree .top .linked)
   where
-    go : (ws : List WordAt) → Linked (sibling (at (oneWord 1)) 0) 0 (wordsAt ws) → ⊥
+    go : (ws : List WordAt) → Linked (sibling (at (oneWord 1 2)) 0) 0 (wordsAt ws) → ⊥
     go [] l = absurd (omega (arith, l))
     go (w ∷ ws) l =
         let q : w .at ≡ 1 = sym (l .0) in
-        own-next (sibling (at (oneWord 1)) 0) (w .at) (wordsAt ws) (rw q) (l .1) (l .2)
+        own-next (sibling (at (oneWord 1 2)) 0) (w .at) (wordsAt ws) (rw q) (l .1) (l .2)
 
 -- the first phone, or the last one, is item 1, though no item is used
 first-walked : chain (follow (at (noWords 0 0 1))) (used (noWords 0 0 1)) 0 ≡ []
@@ -103,13 +109,40 @@ last-phone words t =
     let l : Linked (prev (at (noWords 0 1 0))) 0 [] = subst (λ (ws : List WordAt). Linked (prev (at (noWords 0 1 0))) 0 (reverse (phonesAt ws))) e (t .backwards) in
     absurd (omega (arith, l))
 
--- with 0 there each tells a book
+-- the only word has no source
+pub no-source : (words : List Word) → Tells (oneWord 0 0) words → ⊥
+unfolding at isItem fits isWordItem isSource isWord isClean itemOf recordAt u16At ascii low every is
+no-source words t = go (itemsAt (t .sound .words)) (t .sound .all) (t .sound .each)
+  where
+    go : (xs : List ℕ) → length xs ≡ used (oneWord 0 0) → All (Placed (oneWord 0 0)) xs → ⊥
+    go [] l a = absurd (omega (arith, l))
+    go (x ∷ xs) l a =
+        let p = a .0 in
+        let e : x ≡ 1 = omega (arith, p .real, p .inside) in
+        never (isItem (recordAt 64 (oneWord 0 0) 1)) (subst (λ (n : ℕ). isItem (recordAt 64 (oneWord 0 0) n) ≡ true) e (p .sound)) refl
+
+-- phones that are none are well cut
+comma-cut : (source : ℕ) → WellCut (comma source)
+unfolding vowels
+comma-cut source = record { vowelled = λ p v. absurd (omega (arith, v)); vowelless = λ p v l. absurd (omega (arith, l)) }
+
+-- the only word has another source than in the book
+first-source : List Word → ℕ
+first-source [] = 0
+first-source (w ∷ ws) = w .source
+
+pub other-source : Tells (oneWord 0 3) (comma 2 ∷ []) → ⊥
+unfolding reading places at itemOf recordAt u16At chain sibling first-source
+other-source t =
+    let own = tells (oneWord 0 3) (comma 3 ∷ []) (t .sound) refl (comma-cut 3, tt) in
+    let e : _≡_ {A = ℕ} 2 3 = ap first-source (one-telling (oneWord 0 3) (comma 2 ∷ []) (comma 3 ∷ []) t own) in
+    absurd (omega (arith, e))
+
+-- with that byte put right each tells a book
 pub no-words : Tells (noWords 0 0 0) []
 unfolding isSound isSheetLength isHead isHeadItem isClean isParent isChained walks order after beyond reading places chain at itemOf recordAt u16At every is
 no-words = tells (noWords 0 0 0) [] (sound (noWords 0 0 0) refl) refl tt
 
-pub one-word : Tells (oneWord 0) (comma ∷ [])
-unfolding isSound isSheetLength isHead isHeadItem isItem isSource isWordItem isWord isClean isPlaced isParent isSibling isFull isChained walks order after beyond reading places chain sibling fits at itemOf recordAt u16At ascii low every is vowels
-one-word =
-    tells (oneWord 0) (comma ∷ []) (sound (oneWord 0) refl) refl
-    (record { vowelled = λ p v. absurd (omega (arith, v)); vowelless = λ p v l. absurd (omega (arith, l)) }, tt)
+pub one-word : Tells (oneWord 0 2) (comma 2 ∷ [])
+unfolding isSound isSheetLength isHead isHeadItem isItem isSource isWordItem isWord isClean isPlaced isParent isSibling isFull isChained walks order after beyond reading places chain sibling fits at itemOf recordAt u16At ascii low every is
+one-word = tells (oneWord 0 2) (comma 2 ∷ []) (sound (oneWord 0 2) refl) refl (comma-cut 2, tt)

@@ -66,13 +66,13 @@ unfoldable pub isWordItem : Item → Bool
 isWordItem i =
     eqb (i .kind) 1 && eqb (i .stress) 0 && eqb (i .prev) 0 && eqb (i .follow) 0 && eqb (i .mark) 0 && isSource (i .source) && isWord (i .text)
 
--- a syllable: stress "0" or "1", no text
+-- a syllable: stress "0" or "1", no source, no text
 unfoldable pub isSyllableItem : Item → Bool
 isSyllableItem i =
     eqb (i .kind) 2 && (eqb (i .stress) 48 || eqb (i .stress) 49) && eqb (i .prev) 0 && eqb (i .follow) 0
     && eqb (i .mark) 0 && eqb (i .source) 0 && eqb (length (i .text)) 0
 
--- a phone: its text at most 15 bytes, each below 128; no stress, no children
+-- a phone: its text at most 15 bytes, each below 128; no stress, no children, no source
 unfoldable pub isPhoneItem : Item → Bool
 isPhoneItem i =
     eqb (i .kind) 3 && eqb (i .stress) 0 && eqb (i .first) 0 && eqb (i .last) 0

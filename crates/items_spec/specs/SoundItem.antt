@@ -14,7 +14,7 @@ pub record SoundText (r : List ℕ) (most : ℕ) : Type 0 where
   pub low : Low r 17 (17 + getD r 16 0)
   pub pastText : Zero r (17 + getD r 16 0) 64
 
--- where a word came from
+-- where a word came from (02, S-6)
 pub data SoundSource (s : ℕ) : Type 0 where
   runtime : s ≡ 1 → SoundSource s
   addenda : s ≡ 2 → SoundSource s

@@ -1,4 +1,5 @@
--- A word as it is handed over: its text, its source, its bare phones, and for each of these a byte, the stress of the syllable that ends there, 0 where none ends.
+-- A word as it is handed over: its text, its source, its bare phones, and for each of these a byte, the stress of the syllable that ends there,
+-- 0 where none ends.
 -- Assumes nothing.
 use Prim.Native.Nat.{ℕ, _-_, _<_}
 use mathlib.Core.Logic.{_≢_}

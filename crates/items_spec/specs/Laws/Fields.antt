@@ -2,7 +2,7 @@
 -- Assumes nothing.
 use Prim.Native.Nat.{_≤_}
 use mathlib.Core.Path.{_≡_}
-use mathlib.Core.Bool.{true, _&&_, _||_}
+use mathlib.Core.Bool.{Bool, true, _&&_, _||_}
 use lib.Dec.{eqb, leb}
 use lib.ListN.{length}
 use borrow.Author.Tests.{eqb-true, leb-true}
@@ -46,7 +46,26 @@ pub record HeadFields (i : Item) : Type 0 where
   pub source : i .source ≡ 0
   pub text : length (i .text) ≡ 0
 
+-- six tests that all say yes
+abbrev Yes : Bool → Type 0
+Yes b = b ≡ true
+
+six-true : (a b c d e f : Bool) → Yes (a && b && c && d && e && f) → Yes a × Yes b × Yes c × Yes d × Yes e × Yes f
+six-true a b c d e f h =
+    let u = both-true (a && b && c && d && e) f h in
+    let v = both-true (a && b && c && d) e (u .0) in
+    let w = both-true (a && b && c) d (v .0) in
+    let x = both-true (a && b) c (w .0) in
+    let y = both-true a b (x .0) in
+    (y .0, y .1, x .1, w .1, v .1, u .1)
+
 module _ (i : Item) where
+  abbrev noMark : Bool
+  noMark = eqb (i .mark) 0
+
+  abbrev noSource : Bool
+  noSource = eqb (i .source) 0
+
   pub word-fields : isWordItem i ≡ true → WordFields i
   unfolding isWordItem
   word-fields h =
@@ -54,21 +73,16 @@ module _ (i : Item) where
       let stress = eqb (i .stress) 0 in
       let prev = eqb (i .prev) 0 in
       let follow = eqb (i .follow) 0 in
-      let mark = eqb (i .mark) 0 in
       let source = isSource (i .source) in
-      let a = both-true (kind && stress && prev && follow && mark && source) (isWord (i .text)) h in
-      let b = both-true (kind && stress && prev && follow && mark) source (a .0) in
-      let c = both-true (kind && stress && prev && follow) mark (b .0) in
-      let d = both-true (kind && stress && prev) follow (c .0) in
-      let e = both-true (kind && stress) prev (d .0) in
-      let f = both-true kind stress (e .0) in
+      let a = both-true (kind && stress && prev && follow && noMark && source) (isWord (i .text)) h in
+      let t = six-true kind stress prev follow noMark source (a .0) in
       record {
-        kind = eqb-true (i .kind) 1 (f .0);
-        stress = eqb-true (i .stress) 0 (f .1);
-        prev = eqb-true (i .prev) 0 (e .1);
-        follow = eqb-true (i .follow) 0 (d .1);
-        mark = eqb-true (i .mark) 0 (c .1);
-        source = b .1;
+        kind = eqb-true (i .kind) 1 (t .0);
+        stress = eqb-true (i .stress) 0 (t .1);
+        prev = eqb-true (i .prev) 0 (t .2);
+        follow = eqb-true (i .follow) 0 (t .3);
+        mark = eqb-true (i .mark) 0 (t .4);
+        source = t .5;
         text = a .1;
       }
 
@@ -79,21 +93,15 @@ module _ (i : Item) where
       let stress = eqb (i .stress) 48 || eqb (i .stress) 49 in
       let prev = eqb (i .prev) 0 in
       let follow = eqb (i .follow) 0 in
-      let mark = eqb (i .mark) 0 in
-      let source = eqb (i .source) 0 in
-      let a = both-true (kind && stress && prev && follow && mark && source) (eqb (length (i .text)) 0) h in
-      let b = both-true (kind && stress && prev && follow && mark) source (a .0) in
-      let c = both-true (kind && stress && prev && follow) mark (b .0) in
-      let d = both-true (kind && stress && prev) follow (c .0) in
-      let e = both-true (kind && stress) prev (d .0) in
-      let f = both-true kind stress (e .0) in
+      let a = both-true (kind && stress && prev && follow && noMark && noSource) (eqb (length (i .text)) 0) h in
+      let t = six-true kind stress prev follow noMark noSource (a .0) in
       record {
-        kind = eqb-true (i .kind) 2 (f .0);
-        stress = f .1;
-        prev = eqb-true (i .prev) 0 (e .1);
-        follow = eqb-true (i .follow) 0 (d .1);
-        mark = eqb-true (i .mark) 0 (c .1);
-        source = eqb-true (i .source) 0 (b .1);
+        kind = eqb-true (i .kind) 2 (t .0);
+        stress = t .1;
+        prev = eqb-true (i .prev) 0 (t .2);
+        follow = eqb-true (i .follow) 0 (t .3);
+        mark = eqb-true (i .mark) 0 (t .4);
+        source = eqb-true (i .source) 0 (t .5);
         text = eqb-true (length (i .text)) 0 (a .1);
       }
 
@@ -104,45 +112,30 @@ module _ (i : Item) where
       let stress = eqb (i .stress) 0 in
       let first = eqb (i .first) 0 in
       let last = eqb (i .last) 0 in
-      let mark = eqb (i .mark) 0 in
-      let source = eqb (i .source) 0 in
       let short = leb (length (i .text)) 15 in
-      let z = both-true (kind && stress && first && last && mark && source && short) (ascii (i .text)) h in
-      let a = both-true (kind && stress && first && last && mark && source) short (z .0) in
-      let b = both-true (kind && stress && first && last && mark) source (a .0) in
-      let c = both-true (kind && stress && first && last) mark (b .0) in
-      let d = both-true (kind && stress && first) last (c .0) in
-      let e = both-true (kind && stress) first (d .0) in
-      let f = both-true kind stress (e .0) in
+      let a = both-true (kind && stress && first && last && noMark && noSource && short) (ascii (i .text)) h in
+      let b = both-true (kind && stress && first && last && noMark && noSource) short (a .0) in
+      let t = six-true kind stress first last noMark noSource (b .0) in
       record {
-        kind = eqb-true (i .kind) 3 (f .0);
-        stress = eqb-true (i .stress) 0 (f .1);
-        first = eqb-true (i .first) 0 (e .1);
-        last = eqb-true (i .last) 0 (d .1);
-        mark = eqb-true (i .mark) 0 (c .1);
-        source = eqb-true (i .source) 0 (b .1);
-        short = leb-true (length (i .text)) 15 (a .1);
-        low = z .1;
+        kind = eqb-true (i .kind) 3 (t .0);
+        stress = eqb-true (i .stress) 0 (t .1);
+        first = eqb-true (i .first) 0 (t .2);
+        last = eqb-true (i .last) 0 (t .3);
+        mark = eqb-true (i .mark) 0 (t .4);
+        source = eqb-true (i .source) 0 (t .5);
+        short = leb-true (length (i .text)) 15 (b .1);
+        low = a .1;
       }
 
   pub head-fields : isHeadItem i ≡ true → HeadFields i
   unfolding isHeadItem
   head-fields h =
-      let kind = eqb (i .kind) 0 in
-      let stress = eqb (i .stress) 0 in
-      let next = eqb (i .next) 0 in
-      let mark = eqb (i .mark) 0 in
-      let source = eqb (i .source) 0 in
-      let a = both-true (kind && stress && next && mark && source) (eqb (length (i .text)) 0) h in
-      let b = both-true (kind && stress && next && mark) source (a .0) in
-      let c = both-true (kind && stress && next) mark (b .0) in
-      let d = both-true (kind && stress) next (c .0) in
-      let e = both-true kind stress (d .0) in
+      let t = six-true (eqb (i .kind) 0) (eqb (i .stress) 0) (eqb (i .next) 0) noMark noSource (eqb (length (i .text)) 0) h in
       record {
-        kind = eqb-true (i .kind) 0 (e .0);
-        stress = eqb-true (i .stress) 0 (e .1);
-        next = eqb-true (i .next) 0 (d .1);
-        mark = eqb-true (i .mark) 0 (c .1);
-        source = eqb-true (i .source) 0 (b .1);
-        text = eqb-true (length (i .text)) 0 (a .1);
+        kind = eqb-true (i .kind) 0 (t .0);
+        stress = eqb-true (i .stress) 0 (t .1);
+        next = eqb-true (i .next) 0 (t .2);
+        mark = eqb-true (i .mark) 0 (t .3);
+        source = eqb-true (i .source) 0 (t .4);
+        text = eqb-true (length (i .text)) 0 (t .5);
       }

@@ -77,10 +77,10 @@ rows! { pub ROWS:
     silent(origin: &Origin) {
         let is = |source: u8| origin.phones.is_empty() && origin.source() == source;
     } [
-        "runtime: no phones" => is(1),
-        "addenda: no phones" => is(2),
-        "compiled: no phones" => is(3),
-        "letters: no phones" => is(sources::LETTERS),
+        "runtime: said without phones" => is(1),
+        "addenda: said without phones" => is(2),
+        "compiled: said without phones" => is(3),
+        "letters: said without phones" => is(sources::LETTERS),
     ]
 
     /// Which sections are refused by 1, by what lookup says without the letter trees.
