@@ -13,7 +13,7 @@ ghost use Rattle.items_spec.specs.Item.{item as itemBytes};
 ghost use Rattle.utterance_spec.specs.Tree.{syllablesAt};
 ghost use Rattle.utterance_spec.specs.Sheet.{at, used as usedOf, items};
 ghost use Rattle.utterance_spec.specs.Append.{headOr, sizeIn, numbered, phoneItems, wordItems, putItems, tied, appended};
-ghost use Rattle.utterance_spec.specs.Cuts.{grouped, wordOf, Ended};
+ghost use Rattle.utterance_spec.specs.Cuts.{grouped, cutWord, Ended};
 ghost use Rattle.appending.specs.Laws.Grouped.{span};
 ghost use Rattle.appending.specs.Laws.Putting.{phoneItem, oneSyllable, syllablesFrom};
 
@@ -154,7 +154,7 @@ fn put_syllables(sheet: &mut [u8], w: u16, q: u16, phones: &[u8], cuts: &[u8])
 // A word from item n on; phone q stands before it.
 fn put_word(sheet: &mut [u8], n: u16, q: u16, word: &[u8], source: u8, phones: &[u8], cuts: &[u8])
     requires { ⌜ (length (now word) ≤ 47) × (length (now cuts) ≡ length (now phones) / 16) × Ended (now cuts) × (n + sizeIn (grouped (now cuts) (phonesOf (now phones))) < items (now sheet)) × (length (now sheet) ≤ 65536) ⌝ }
-    ensures { λ _. ⌜ now (sheet .exit) ≡ putItems (now (sheet .entry)) n (wordItems n q (wordOf (now (word .entry)) source (now (cuts .entry)) (phonesOf (now (phones .entry))))) ⌝ }
+    ensures { λ _. ⌜ now (sheet .exit) ≡ putItems (now (sheet .entry)) n (wordItems n q (cutWord (now (word .entry)) source (now (cuts .entry)) (phonesOf (now (phones .entry))))) ⌝ }
 {
     let first = next_or(0, n + 1, cuts.len());
     let last = last_syllable(phones, cuts, n + 1);
@@ -187,7 +187,7 @@ pub fn append(sheet: &mut [u8], word: &[u8], source: u8, phones: &[u8], cuts: &[
     requires { ⌜ (length (now word) ≤ 47) × (length (now cuts) ≡ length (now phones) / 16) × Ended (now cuts) ⌝ }
     requires { ⌜ (length (now sheet) ≤ 65536) × (at (now sheet) 0 .last ≤ usedOf (now sheet)) × (at (now sheet) 0 .prev ≤ usedOf (now sheet)) ⌝ }
     requires { ⌜ usedOf (now sheet) + (1 + sizeIn (grouped (now cuts) (phonesOf (now phones)))) < items (now sheet) ⌝ }
-    ensures { λ _. ⌜ now (sheet .exit) ≡ appended (now (sheet .entry)) (wordOf (now (word .entry)) source (now (cuts .entry)) (phonesOf (now (phones .entry)))) ⌝ }
+    ensures { λ _. ⌜ now (sheet .exit) ≡ appended (now (sheet .entry)) (cutWord (now (word .entry)) source (now (cuts .entry)) (phonesOf (now (phones .entry)))) ⌝ }
 {
     let w = utterance::last(sheet, 0);
     let q = utterance::prev(sheet, 0);

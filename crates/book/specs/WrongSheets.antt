@@ -126,11 +126,12 @@ comma-cut : (source : ℕ) → WellCut (comma source)
 unfolding vowels
 comma-cut source = record { vowelled = λ p v. absurd (omega (arith, v)); vowelless = λ p v l. absurd (omega (arith, l)) }
 
--- the only word has another source than in the book
+-- the source of the first word, 0 if there is none
 first-source : List Word → ℕ
 first-source [] = 0
 first-source (w ∷ ws) = w .source
 
+-- the only word has another source than in the book
 pub other-source : Tells (oneWord 0 3) (comma 2 ∷ []) → ⊥
 unfolding reading places at itemOf recordAt u16At chain sibling first-source
 other-source t =

@@ -19,8 +19,9 @@ grouped [] ps = []
 grouped (m ∷ ms) [] = []
 grouped (m ∷ ms) (p ∷ ps) = if eqb m 0 then onHead p (grouped ms ps) else record { stress = m; phones = p ∷ [] } ∷ grouped ms ps
 
-abbrev pub wordOf : List ℕ → ℕ → List ℕ → List (List ℕ) → Word
-wordOf text source cuts ps = record { text = text; source = source; syllables = grouped cuts ps }
+-- the word
+abbrev pub cutWord : List ℕ → ℕ → List ℕ → List (List ℕ) → Word
+cutWord text source cuts ps = record { text = text; source = source; syllables = grouped cuts ps }
 
 -- the last phone ends a syllable
 abbrev pub Ended : List ℕ → Type 0

@@ -14,7 +14,7 @@ use Rattle.items_spec.specs.Item.{Item, item}
 use Rattle.utterance_spec.specs.Tree.{Syllable, syllablesAt}
 use Rattle.utterance_spec.specs.Append.{headOr, sizeIn, size, numbered, phoneItems, syllableItems, wordItems, putItems, tied, appended}
 use Rattle.utterance_spec.specs.Sheet.{at, used}
-use Rattle.utterance_spec.specs.Cuts.{grouped, wordOf, Ended}
+use Rattle.utterance_spec.specs.Cuts.{grouped, cutWord, Ended}
 use Rattle.appending.specs.Laws.Grouped.{span, end-behind, grouped-from}
 use Rattle.appending.specs.Laws.Numbers.{head-some, end-from, syllable-at, phone-at, phone-last, grouped-end, numbered-turn, phones-long}
 
@@ -113,13 +113,13 @@ syllables-end b ms ps i w q k h = rw (grouped-end ms ps i h)
 module _ (ms : List ℕ) (ps : List (List ℕ)) (l : length ms ≡ length ps) (text : List ℕ) (source : ℕ) where
   pub word-written : (b s t : List ℕ) (n q y z : ℕ) → y ≡ headOr 0 (from (n + 1) (length ms)) → z ≡ endOf 0 (syllablesAt (numbered (n + 1) (grouped ms ps)))
       → s ≡ putRecord 64 b n (item (record { kind = 1; stress = 0; next = 0; first = y; last = z; parent = 0; prev = 0; follow = 0; mark = 0; source = source; text = text }))
-      → t ≡ putItems s (n + 1) (syllablesFrom n q (n + 1) (grouped ms ps)) → t ≡ putItems b n (wordItems n q (wordOf text source ms ps))
+      → t ≡ putItems s (n + 1) (syllablesFrom n q (n + 1) (grouped ms ps)) → t ≡ putItems b n (wordItems n q (cutWord text source ms ps))
   unfolding putItems wordItems syllablesFrom
   word-written b s t n q y z ey ez es et = et ∙ rw (es, ey, ez, syllable-at ms ps l (n + 1))
 
   pub word-tied : (b s t : List ℕ) (w q n a z u : ℕ) → w ≡ at b 0 .last → q ≡ at b 0 .prev → n ≡ used b + 1 → u ≡ used b + (1 + sizeIn (grouped ms ps))
       → a ≡ headOr 0 (from (n + 2) (length ms)) → z ≡ headOr q (from u (length ms))
-      → s ≡ putItems b n (wordItems n q (wordOf text source ms ps)) → t ≡ tied s w q n a z u → t ≡ appended b (wordOf text source ms ps)
+      → s ≡ putItems b n (wordItems n q (cutWord text source ms ps)) → t ≡ tied s w q n a z u → t ≡ appended b (cutWord text source ms ps)
   unfolding appended size
   word-tied b s t w q n a z u ew eq en eu ea ez es et =
       let e₁ : used b + 1 + 1 + 1 ≡ used b + 1 + 2 = omega arith in

@@ -8,7 +8,7 @@ use lib.ListN.{length, take}
 use lib.Seq.{take-append-seam}
 use Rattle.cells.specs.Cells.{phonesOf, cellsOf, length-cellsOf, length-phonesOf}
 use Rattle.utterance_spec.specs.Tree.{Syllable}
-use Rattle.utterance_spec.specs.Cuts.{wordOf, Ended}
+use Rattle.utterance_spec.specs.Cuts.{cutWord, Ended}
 use Rattle.pipeline_spec.specs.Pronounced.{said}
 use Rattle.pipeline_spec.specs.Cutting.{cutsOf}
 use Rattle.pipeline_spec.specs.Laws.Cuts.{ownMarks, cuts-sung, cuts-ended, length-cuts, length-own}
@@ -17,7 +17,7 @@ use Rattle.pipeline_spec.specs.Laws.BareCells.{bareOf, length-bare, bare
 pub record Handed (phones cells ends : List ℕ) : Type 0 where
   pub paired : length ends ≡ length cells / 16
   pub ended : Ended ends
-  pub word : (text : List ℕ) (source : ℕ) → wordOf text source ends (phonesOf cells) ≡ said text source (phonesOf phones)
+  pub word : (text : List ℕ) (source : ℕ) → cutWord text source ends (phonesOf cells) ≡ said text source (phonesOf phones)
 
 module _ (phones cells ends more rest : List ℕ) (n : ℕ) (e : n ≡ length phones / 16)
     (b : cells ≡ take (16 * n) (cellsOf (bareOf phones) ++ more)) (c : ends ≡ take n (cutsOf 48 (ownMarks (phonesOf phones)) (phonesOf phones) ++ rest)) where
