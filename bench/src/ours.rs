@@ -37,18 +37,18 @@ impl Lent for &mut [u8] {
     }
 }
 
-/// Functions of the library by their slices, those that are written with `mut`, and by a yes or no behind them.
+/// Functions of the library by their slices, those that are written with `mut`, and by a number or a bool behind them.
 macro_rules! library {
-    ($($name:ident = $function:ident($($slice:ident: $kind:ty),* $(; $whether:ident)?);)*) => {
+    ($($name:ident = $function:ident($($slice:ident: $kind:ty),* $(; $number:ident: $of:ty)?);)*) => {
         #[link(name = "pronouncer", kind = "static")]
         extern "C" {
-            $(fn $function($($slice: *mut u8, _: usize,)* $($whether: bool)?) -> Answer;)*
+            $(fn $function($($slice: *mut u8, _: usize,)* $($number: $of)?) -> Answer;)*
         }
 
-        $(pub fn $name($($slice: $kind,)* $($whether: bool)?) -> Answer {
+        $(pub fn $name($($slice: $kind,)* $($number: $of)?) -> Answer {
             $(let $slice = $slice.lent();)*
             // SAFETY: each pointer and length is a whole slice; the library writes only what is lent with `mut`.
-            unsafe { $function($($slice.0, $slice.1,)* $($whether)?) }
+            unsafe { $function($($slice.0, $slice.1,)* $($number)?) }
         })*
     };
 }
@@ -63,12 +63,12 @@ library! {
     );
     new_store = pronouncer_new_store(store: &mut [u8]);
     add_entry = pronouncer_add_entry(
-        table: &[u8], store: &mut [u8], word: &[u8], tag: &[u8], phones: &[u8]; exact
+        table: &[u8], store: &mut [u8], word: &[u8], tag: &[u8], phones: &[u8]; exact: bool
     );
     add_entries = pronouncer_add_entries(table: &[u8], store: &mut [u8], spare: &mut [u8], text: &[u8]);
     preview_entries = pronouncer_preview_entries(table: &[u8], store: &[u8], spare: &mut [u8], text: &[u8]);
     accept_entries = pronouncer_accept_entries(store: &mut [u8], spare: &[u8]);
-    new_sheet = pronouncer_new_sheet(sheet: &mut [u8]);
+    new_sheet = pronouncer_new_sheet(sheet: &mut [u8]; version: u32);
     say_word_in = pronouncer_say_word(
         lex_phones: &[u8], lex_index: &[u8], lex_data: &[u8], lts_phones: &[u8], lts_index: &[u8], lts_model: &[u8],
         store: &[u8], sheet: &mut [u8], word: &[u8], tag: &[u8]

@@ -183,9 +183,10 @@ pub fn sheet(tables: &Tables, count: usize) -> Vec<u8> {
     sheet
 }
 
+/// Of version 1, whose stresses are the original's.
 fn empty_sheet() -> Vec<u8> {
     let mut sheet = vec![0; LARGEST];
-    ours::new_sheet(&mut sheet);
+    ours::new_sheet(&mut sheet, 1);
     sheet
 }
 

@@ -56,7 +56,7 @@ int main(void)
     struct pronouncer_settings shown;
 
     if (refused("new_store", pronouncer_new_store(store, sizeof store)) ||
-        refused("new_sheet", pronouncer_new_sheet(sheet, sizeof sheet)))
+        refused("new_sheet", pronouncer_new_sheet(sheet, sizeof sheet, PRONOUNCER_SHEET_2)))
         return 1;
 
     answer = pronouncer_preview_entries(

@@ -53,7 +53,8 @@ enum pronouncer_refusal {
     /* A store or sheet has a wrong length or is not sound, settings have a wrong length, the spare is
      * not as long as the store, or a spare to be accepted is not a sound store. Lend the lengths
      * above, begin with pronouncer_new_store or pronouncer_new_sheet, fill a spare with
-     * pronouncer_preview_entries, and let only calls write the bytes. */
+     * pronouncer_preview_entries, and let only calls write the bytes. A sheet of an unknown version is
+     * not sound: if its byte 1 is 0 an earlier library began it, or none did. Begin a new one. */
     PRONOUNCER_UNSOUND = 2,
     /* A word or tag is over 47 bytes, or a text has a byte of 128 or more. Write it shorter, or in
      * ASCII. */
@@ -79,8 +80,9 @@ enum pronouncer_refusal {
      * accepted, or from a text that stopped at a line: preview the text again. Or the store's count
      * is the largest: begin a new store and add its entries again. */
     PRONOUNCER_COUNT = 12,
-    /* The version of the settings or the reader's is neither 1 nor 2. Ask with 1 or 2; settings of
-     * another version are read by the library that has it, or written anew. */
+    /* A version is not known: that of a sheet to begin, of settings or of their reader. Begin the
+     * sheet with an enum pronouncer_sheet_version. Ask for settings with 1 or 2; those of another
+     * version are read by the library that has it, or written anew. */
     PRONOUNCER_VERSION = 15,
     /* In the settings an index leads outside, the chain goes in a circle, a name stands twice, or a
      * name's length or a kind is out of range: write new settings. Or the setting to write is none
@@ -101,6 +103,13 @@ enum pronouncer_source {
     PRONOUNCER_ADDENDA = 2,  /* in the library's own short table */
     PRONOUNCER_COMPILED = 3, /* in the lexicon's sections */
     PRONOUNCER_LETTERS = 4   /* nowhere: from the letter trees, which guess. Never of a lookup. */
+};
+
+/* The version of a sheet, which is byte 1 of its item 0: what comes off a phone as its stress, and so
+ * which bytes a syllable's stress may be. */
+enum pronouncer_sheet_version {
+    PRONOUNCER_SHEET_1 = 1, /* 48 and 49, the digits "0" and "1": "ae2" stays whole, and is no vowel */
+    PRONOUNCER_SHEET_2 = 2  /* 50 too, the digit "2": the secondary stress of CMUdict */
 };
 
 /* The kind of a setting. */
@@ -328,21 +337,23 @@ struct pronouncer_answer pronouncer_accept_entries(
     uint8_t *store, size_t store_len,
     const uint8_t *spare, size_t spare_len);
 
-/* Begins a sheet without words.
+/* Begins a sheet without words. A word whose phones have no "2" is said alike on both versions.
  *
  * sheet: 64 to 65,536 bytes that may hold anything. What is left behind the last whole item is
- * neither read nor written by any call.
+ * neither read nor written by any call. version: an enum pronouncer_sheet_version.
  * Refusals:
- *   2  the length is another
- * Writes the first 64 bytes, all 0, and no other byte.
+ *    2  the length is another
+ *   15  the version is another
+ * Writes the first 64 bytes, byte 1 the version and the others 0, and no other byte.
  */
-struct pronouncer_answer pronouncer_new_sheet(uint8_t *sheet, size_t sheet_len);
+struct pronouncer_answer pronouncer_new_sheet(uint8_t *sheet, size_t sheet_len, uint32_t version);
 
 /* Says a word: puts it last on the sheet, with the phones that pronouncer_lookup finds or, where no
- * source has the word, those of pronouncer_predict. One last "0" or "1" comes off each phone, the
- * bare phones are cut as by pronouncer_syllabify, and a syllable's stress is the last digit that
- * came off in it, else "0". Byte 15 of the word's item tells the source, an enum pronouncer_source
- * from 1 to 4; later entries do not change it. A word with PRONOUNCER_LETTERS is worth a check.
+ * source has the word, those of pronouncer_predict. One last digit comes off each phone, "0" or "1",
+ * and on a sheet of version 2 "2" as well; the bare phones are cut as by pronouncer_syllabify, and a
+ * syllable's stress is the last digit that came off in it, else "0". Byte 15 of the word's item tells
+ * the source, an enum pronouncer_source from 1 to 4; later entries do not change it. A word with
+ * PRONOUNCER_LETTERS is worth a check.
  *
  * phones, index, data: lex.phones, lex.index, lex.data. sounds, starts, model: lts.phones,
  * lts.index, lts.model. store: a sound store. sheet: a sound sheet. word, tag.
@@ -437,7 +448,8 @@ struct pronouncer_answer pronouncer_write_setting(
  */
 struct pronouncer_answer pronouncer_is_vowel(const uint8_t *phone, size_t phone_len);
 
-/* Beyond the fifteen calls: the stress of a phone, its last byte if that is "0" or "1".
+/* Beyond the fifteen calls: the stress of a phone, its last byte if that is "0" or "1". So it is by
+ * version 1 of a sheet: "ae2" stays whole.
  *
  * phone: its text, without a length in front.
  * Answer: kind is the stress, 48 or 49, or 0 where there is none; value is the length of the bare

@@ -39,8 +39,8 @@ pub fn words(refusal: Refusal) -> String {
             "Preview again; where that does not help, begin a new store and add the entries to it.",
         ),
         Refusal::Version => (
-            "the version of the settings, or of their reader, is neither 1 nor 2",
-            "Name one of these, or write new settings (rack_settings --new).",
+            "a version is not known: of a sheet to begin, of the settings or of their reader",
+            "Name 1 or 2, or write new settings (rack_settings --new).",
         ),
         Refusal::Records => (
             "the chain of settings is damaged, or the setting to write is unknown or has no record",

@@ -107,7 +107,7 @@ fn help_and_version() {
     let help = say(&["--help"]);
     assert_eq!((help.status, help.err.as_str()), (Some(0), ""));
     assert!(help.out.starts_with(
-        "say [--tables FOLDER] [--store STORE_FILE] [--entries FILE] .. [--plain] [--guessed] [--] [WORD ..]\n"
+        "say [--tables FOLDER] [--store STORE_FILE] [--entries FILE] .. [--plain] [--guessed] [--sheet-version VERSION] [--]\n    [WORD ..]\n"
     ));
     assert_eq!(say(&["house", "--help"]), help);
     assert_eq!(say(&["--version"]), ended(0, "say 0.1.0\n", ""));

@@ -80,7 +80,7 @@ pub type Ruling = Result<Told, Stop>;
 pub enum Asked {
     /// Not at all; most refusals are 01's alone.
     No,
-    /// For a part, because of exact entries, which it does not have.
+    /// For a part, because of exact entries or of a sheet of version 2, which it does not have.
     Part,
     Whole,
 }
@@ -129,8 +129,8 @@ pub trait Call: Default {
     /// What 01 and the original say, whatever output there is. Tells what was met on the way.
     fn rule(&self, input: &Self::Input, met: &mut Met) -> Ruling;
 
-    /// Whether an input has exact entries, so that the original can be asked for a part alone.
-    fn has_exact(&self, _input: &Self::Input) -> bool {
+    /// Whether an input has exact entries or a sheet of version 2, so that the original can be asked for a part alone.
+    fn is_beyond(&self, _input: &Self::Input) -> bool {
         false
     }
 
@@ -166,7 +166,7 @@ pub trait Call: Default {
             outcome: Ok(Outcome { answer: told.answer, written, altered: None }),
             asked: match told.asked {
                 false => Asked::No,
-                true if self.has_exact(input) => Asked::Part,
+                true if self.is_beyond(input) => Asked::Part,
                 true => Asked::Whole,
             },
             row: row(told.answer.refusal, told.row),

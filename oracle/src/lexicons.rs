@@ -2,6 +2,7 @@
 
 use crate::forever::{hold, Held};
 use crate::prelude::*;
+use crate::stresses::{twin, with_digit, Twins};
 use crate::tables::{phone_names, phone_table};
 
 sections!("lex": data);
@@ -52,6 +53,7 @@ pub struct Lexicon {
     /// Whether some entry is damaged, or has a number without a phone.
     pub has_damage: bool,
     original: Option<Held<lexicon::Lexicon>>,
+    twins: Twins<Rc<Lexicon>>,
 }
 
 impl Lexicon {
@@ -60,7 +62,8 @@ impl Lexicon {
         let offsets = offsets(&sections.index);
         let original = names.is_some() && offsets.is_some();
         let original = original.then(|| hold(&sections.parts(), lexicon::Lexicon::parse));
-        let mut made = Lexicon { sections, names, offsets, has_damage: false, original };
+        let twins = Twins::default();
+        let mut made = Lexicon { sections, names, offsets, has_damage: false, original, twins };
         made.has_damage = made.has_form() && (0..made.count()).any(|i| made.whole(i).is_err());
         made
     }
@@ -73,6 +76,15 @@ impl Lexicon {
     /// A phone table beside no entries, which is all that adding takes.
     pub fn of_table(phones: Vec<u8>) -> Rc<Lexicon> {
         Rc::new(Lexicon::new(Sections { phones, index: index(&[]), data: vec![] }))
+    }
+
+    /// The same with a digit in the place of each phone's last "2".
+    pub fn with_digit(&self, digit: u8) -> &Rc<Lexicon> {
+        twin(&self.twins, digit, || {
+            let names = self.names.iter().flatten().map(|name| with_digit(name, digit));
+            let phones = phone_table(&names.collect::<Vec<_>>());
+            Rc::new(Lexicon::new(Sections { phones, ..self.sections.clone() }))
+        })
     }
 
     /// Whether all three sections have 01's form.

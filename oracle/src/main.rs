@@ -40,6 +40,7 @@ mod spoken;
 mod store_edges;
 mod store_shapes;
 mod stores;
+mod stresses;
 mod tally;
 mod tree_edges;
 mod tree_shapes;

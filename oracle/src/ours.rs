@@ -102,7 +102,7 @@ library! {
     add_entries = pronouncer_add_entries(phones, store, spare, text);
     preview_entries = pronouncer_preview_entries(phones, store, spare, text);
     accept_entries = pronouncer_accept_entries(store, spare);
-    new_sheet = pronouncer_new_sheet(sheet);
+    new_sheet = pronouncer_new_sheet(sheet [version: u32]);
     say_word = pronouncer_say_word(
         lex_phones, lex_index, lex_data, lts_phones, lts_index, lts_model, store, sheet, word, tag
     );

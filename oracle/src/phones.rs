@@ -1,17 +1,19 @@
 //! Phones and phone lists, made from the original's own tables.
 
 use crate::prelude::*;
+use std::sync::OnceLock;
 
 pub struct Phones {
-    pub names: Vec<&'static str>,
-    pub vowels: Vec<&'static str>,
-    pub consonants: Vec<&'static str>,
+    pub names: &'static [&'static str],
+    pub vowels: &'static [&'static str],
+    pub consonants: &'static [&'static str],
     pub onsets: &'static [&'static str],
 }
 
 /// Phones that are in no table, or nearly in one; the first is the empty one.
 const ODD: &str =
-    " zz ae1 ax0 ae2 t0 pau0 pau1 ng1 AE Ax PAU NG st sk a e au pa n hh0 axrr abcdefghijklmno a-b";
+    " zz ae1 ax0 ae2 t0 pau0 pau1 ng1 AE Ax PAU NG st sk a e au pa n hh0 axrr abcdefghijklmno a-b \
+    2 t2 pau2 ng2 ae22 ae12 ae21 ax02 ax20 st2";
 
 /// The lists that 01 rehearses, parted by commas; the first is the empty one.
 pub const REHEARSED: &str = ",k ae t,eh k s t r ax,s ih ng er,s t,t pau aa,ae t h r ax,ae t l ax";
@@ -21,9 +23,14 @@ fn odd() -> Vec<&'static str> {
 }
 
 impl Default for Phones {
+    /// The tables are read once for all calls.
     fn default() -> Phones {
-        let names = phoneset::probe::names();
-        let (vowels, consonants) = names.iter().partition(|name| phoneset::is_vowel(name));
+        static READ: OnceLock<[Vec<&str>; 3]> = OnceLock::new();
+        let [names, vowels, consonants] = READ.get_or_init(|| {
+            let names = phoneset::probe::names();
+            let (vowels, consonants) = names.iter().partition(|name| phoneset::is_vowel(name));
+            [names, vowels, consonants]
+        });
         Phones { names, vowels, consonants, onsets: lexicon::probe::onsets() }
     }
 }
@@ -31,11 +38,12 @@ impl Default for Phones {
 impl Phones {
     /// One phone, now and then an odd one.
     pub fn phone(&self, random: &mut Random) -> Vec<u8> {
-        match random.weighted(&[6, 3, 2, 1]) {
-            0 => random.pick(&self.names).into(),
-            1 => (random.pick(&self.names).to_string() + random.pick(&["0", "1", "2", "00", "11"]))
-                .into(),
-            2 => random.pick(&odd()).into(),
+        let digits = ["0", "1", "2", "00", "11", "22", "12", "21"];
+        match random.weighted(&[6, 3, 2, 2, 1]) {
+            0 => random.pick(self.names).into(),
+            1 => (random.pick(self.names).to_string() + random.pick(&digits)).into(),
+            2 => (random.pick(self.vowels).to_string() + "2").into(),
+            3 => random.pick(&odd()).into(),
             _ => (0..random.between(0, 15)).map(|_| random.below(128) as u8).collect(),
         }
     }
@@ -44,8 +52,8 @@ impl Phones {
     pub fn short(&self) -> Vec<Vec<u8>> {
         let ascii: Vec<u8> = (0..128).collect();
         let mut phones = words::every(&ascii, 2);
-        for name in &self.names {
-            let ends = "0,1,2,3,4,5,6,7,8,9,,00,01,10,11,12,x,-, ,\0".split(',');
+        for name in self.names {
+            let ends = "0,1,2,3,4,5,6,7,8,9,,00,01,10,11,12,20,21,22,x,-, ,\0".split(',');
             phones.extend(ends.map(|end| [name, end].concat().into()));
             let near = [name.to_uppercase(), name[1..].to_string(), format!("x{name}")];
             phones.extend(near.map(Vec::from));
@@ -57,7 +65,7 @@ impl Phones {
 
     /// Phones for the list: the names, with and without a stress, then others.
     pub fn to_record(&self, random: &mut Random, cases: usize) -> Vec<Vec<u8>> {
-        let plain = [&self.names[..], &odd(), &["ax11", "0", "1", "00", "2", "ax10"]].concat();
+        let plain = [self.names, &odd(), &["ax11", "0", "1", "00", "ax10"]].concat();
         let mut phones: Vec<Vec<u8>> = plain.into_iter().map(Vec::from).collect();
         let stressed = self.names.iter().zip(["0", "1", "1", "2"].iter().cycle());
         phones.extend(stressed.map(|(name, stress)| [*name, stress].concat().into()));
@@ -74,24 +82,24 @@ impl Phones {
         let kind = random.below(24);
         while list.len() < len {
             match random.weighted(&[6, 5, 8, 4, 1, 1, 2, 1]) {
-                _ if kind == 0 => list.push(random.pick(&self.consonants).into()),
-                _ if kind == 1 => list.push(random.pick(&self.vowels).into()),
-                0 => list.push(random.pick(&self.vowels).into()),
-                1 => list.push(random.pick(&self.consonants).into()),
+                _ if kind == 0 => list.push(random.pick(self.consonants).into()),
+                _ if kind == 1 => list.push(random.pick(self.vowels).into()),
+                0 => list.push(random.pick(self.vowels).into()),
+                1 => list.push(random.pick(self.consonants).into()),
                 way @ (2 | 3) => {
                     let mut onset = Vec::from(random.pick(self.onsets));
                     if way == 3 {
                         near_miss(random, &mut onset);
                     }
                     list.extend(cut(random, &onset));
-                    list.push(random.pick(&self.vowels).into());
+                    list.push(random.pick(self.vowels).into());
                 }
                 4 => list.push(b"ng".to_vec()),
                 5 => list.push(b"pau".to_vec()),
                 6 => list.push(self.phone(random)),
                 _ => {
                     for _ in 0..random.between(2, 6) {
-                        list.push(random.pick(&self.consonants).into());
+                        list.push(random.pick(self.consonants).into());
                     }
                 }
             }

@@ -21,7 +21,7 @@ pub(crate) use crate::words::{self, Wanted};
 pub(crate) use crate::{lexicon_edges, lexicon_shapes, lines, log, places};
 pub(crate) use crate::{settings, settings_edges, settings_met, settings_shapes};
 pub(crate) use crate::{sheet_edges, sheet_shapes, sources, spoken, store_edges, store_shapes};
-pub(crate) use crate::{tree_edges, tree_shapes};
+pub(crate) use crate::{stresses, tree_edges, tree_shapes};
 pub(crate) use original::lexicon::LexiconError;
 pub(crate) use original::{lexicon, phoneset};
 pub(crate) use std::rc::Rc;

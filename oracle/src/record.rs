@@ -9,8 +9,8 @@ use std::io;
 const HEAD: &str = "\
 # What the original Rust answers, for programs that have no Rust at hand. Written by the driver in
 # oracle/, which builds the original sources unchanged; no answer here comes from our library. Of
-# exact entries (02, S-8), which it has not, the driver's own rule answers beside it.
-# docs/CASES.md tells the format.";
+# exact entries (02, S-8) and of sheets of version 2 (S-9), which it has not, the driver's own rule
+# answers beside it. docs/CASES.md tells the format.";
 
 /// A file of cases stays below this, so that its reader needs no larger buffer.
 const FILE_BYTES: usize = 60_000;

@@ -7,6 +7,8 @@ use std::time::{Duration, Instant};
 
 /// How many random calls a round has before the limit is looked at.
 const ROUND: usize = 10_000;
+/// How many random calls there are at least where the limit is a time, so that every row is met on a slow machine too.
+const LEAST: usize = 6 * ROUND;
 
 pub enum Limit {
     Calls(usize),
@@ -126,6 +128,7 @@ pub fn run(calls: &mut [Box<dyn Compared>], limit: Limit) -> Result<(), String> 
     let left = |done: usize| match limit {
         Limit::Calls(all) => all.saturating_sub(done),
         Limit::Lists(all) => (all + short).saturating_sub(done),
+        Limit::Seconds(_) if done < short + LEAST => ROUND,
         Limit::Seconds(all) if started.elapsed() < Duration::from_secs(all) => ROUND,
         Limit::Seconds(_) => 0,
     };

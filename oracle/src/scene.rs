@@ -167,12 +167,25 @@ impl Scene {
     /// Asks the original for a word. The exact entries of the word's bytes are the first of its list, as if they were
     /// the oldest and ordinary.
     pub fn asked_for<T>(&self, word: &[u8], question: impl FnOnce(&lexicon::Lexicon) -> T) -> T {
-        let exact: Vec<&Entry> = self.peers(Peers::Exact(word)).collect();
-        if exact.is_empty() {
+        if self.peers(Peers::Exact(word)).next().is_none() {
             return question(self.original());
         }
-        let all: Vec<&Entry> = exact.into_iter().chain(self.peers(Peers::Ordinary)).collect();
-        question(&with_entries(&self.lexicon, &all).reader)
+        question(&with_entries(&self.lexicon, &self.seen_for(word)).reader)
+    }
+
+    /// The same with a digit in the place of each phone's last "2".
+    pub fn asked_with<T>(
+        &self,
+        digit: u8,
+        word: &[u8],
+        question: impl FnOnce(&lexicon::Lexicon) -> T,
+    ) -> T {
+        question(&with_digit(&self.lexicon, &self.seen_for(word), digit).reader)
+    }
+
+    /// The exact entries of a word's bytes, then the ordinary ones.
+    fn seen_for<'a>(&'a self, word: &'a [u8]) -> Vec<&'a Entry> {
+        self.peers(Peers::Exact(word)).chain(self.peers(Peers::Ordinary)).collect()
     }
 
     /// The entries of a sound store, the oldest first.
@@ -264,6 +277,17 @@ impl Shrink for Rc<Scene> {
         let stores = stores.map(|store| self.with_store(store));
         lexicons.chain(stores).collect()
     }
+}
+
+/// The original with these runtime entries, and a digit in the place of each phone's last "2".
+pub fn with_digit(lexicon: &Lexicon, entries: &[&Entry], digit: u8) -> Held<lexicon::Lexicon> {
+    let digits = |phone: &Vec<u8>| stresses::with_digit(phone, digit);
+    let with_digits = |entry: &&Entry| Entry {
+        phones: entry.phones.iter().map(digits).collect(),
+        ..(*entry).clone()
+    };
+    let entries: Vec<Entry> = entries.iter().map(with_digits).collect();
+    with_entries(lexicon.with_digit(digit), &entries.iter().collect::<Vec<_>>())
 }
 
 /// The original with these runtime entries, their words folded.

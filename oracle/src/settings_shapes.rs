@@ -176,10 +176,10 @@ fn sound(random: &mut Random) -> Vec<u8> {
     settings::write(&store, random.between(1, 2), &chain)
 }
 
-/// Any store; three in four are sound.
+/// Any store; five in six are sound.
 pub fn random(random: &mut Random) -> Vec<u8> {
     let mut store = sound(random);
-    if random.once_in(4) {
+    if random.once_in(6) {
         damage(random, &mut store);
         if random.once_in(4) && settings::has_length(store.len()) {
             damage(random, &mut store);

@@ -2,7 +2,7 @@
 
 use crate::prelude::*;
 use crate::records::{resized, with_byte};
-use crate::sheets::{Placed, LARGEST};
+use crate::sheets::{Placed, LARGEST, VERSIONS};
 use crate::spoken::{Syllable, Word};
 
 /// A word of a source, and its syllables, each as its stress and its phones parted by blanks.
@@ -24,38 +24,62 @@ pub fn in_order(words: &[Word]) -> Vec<Placed> {
     words.iter().map(placed).collect()
 }
 
-/// A sheet of these words, with so many bytes behind them, which are all this one.
-pub fn sheet(placed: &[Placed], behind: usize, fill: u8) -> Vec<u8> {
-    sheets::write(&vec![fill; ITEM * (sheets::used(placed) + 1) + behind], placed)
+/// A sheet of a version with these words, and so many bytes behind them, which are all this one.
+pub fn sheet(version: u8, placed: &[Placed], behind: usize, fill: u8) -> Vec<u8> {
+    sheets::write(&vec![fill; ITEM * (sheets::used(placed) + 1) + behind], version, placed)
+}
+
+/// A word with the last stress that a version has in the place of 1.
+fn word_in(version: u8, text: &str, source: u8, syllables: &[&str]) -> Word {
+    let mut word = word(text, source, syllables);
+    for syllable in word.syllables.iter_mut().filter(|syllable| syllable.stress == b'1') {
+        syllable.stress = b'0' + version;
+    }
+    word
 }
 
 /// Three words of three sources, one of them without phones, numbered from behind; two unused items and ten bytes more.
-pub fn good() -> Vec<u8> {
-    let extra = word("Extra", 4, &["1 eh k", "0 s t r ax"]);
+pub fn good(version: u8) -> Vec<u8> {
+    let extra = word_in(version, "Extra", 4, &["1 eh k", "0 s t r ax"]);
     let placed = in_order(&[word("it's", 1, &["1 ih t s"]), word(",", 2, &[]), extra]);
     let from_behind = (1..=sheets::used(&placed)).rev();
-    sheet(&sheets::renumbered(&placed, from_behind), 2 * ITEM + 10, 0xb7)
+    sheet(version, &sheets::renumbered(&placed, from_behind), 2 * ITEM + 10, 0xb7)
 }
 
 /// The smallest sheet with items of every kind.
-pub fn smallest() -> Vec<u8> {
-    sheet(&in_order(&[word("a", 3, &["1 ey"])]), 0, 0)
+pub fn smallest(version: u8) -> Vec<u8> {
+    sheet(version, &in_order(&[word_in(version, "a", 3, &["1 ey"])]), 0, 0)
 }
 
-/// The good sheet with each of its bytes altered.
+/// The good sheet of each version with each of its bytes altered.
 pub fn altered_bytes() -> Vec<Vec<u8>> {
-    let values = [0, 1, 2, 3, 4, 5, 15, 16, 47, 48, 49, 50, 255];
-    records::altered(&good(), ITEM, 22, &values)
+    let values = [0, 1, 2, 3, 4, 5, 15, 16, 47, 48, 49, 50, 51, 255];
+    each! {
+        for version in VERSIONS;
+        records::altered(&good(version), ITEM, 22, &values)
+    }
 }
 
-/// The smallest sheet with every value in each of its bytes.
+/// The smallest sheet of version 1 with every value in each of its bytes, that of version 2 with every value in each
+/// item's byte 1; and every version beside stresses.
 pub fn every_byte() -> Vec<Vec<u8>> {
-    let smallest = smallest();
-    each! {
-        for at in 0..smallest.len();
+    let [first, second] = VERSIONS.map(smallest);
+    let mut all = each! {
+        for at in 0..first.len();
         for value in 0..=255;
-        [with_byte(&smallest, at, value)]
-    }
+        [with_byte(&first, at, value)]
+    };
+    all.extend(each! {
+        for at in (1..second.len()).step_by(ITEM);
+        for value in 0..=255;
+        [with_byte(&second, at, value)]
+    });
+    all.extend(each! {
+        for version in 0..=255;
+        let sheet = with_byte(&second, 1, version);
+        (47..=51).map(|stress| with_byte(&sheet, 2 * ITEM + 1, stress))
+    });
+    all
 }
 
 /// Sheets with the top bit of one byte flipped. That leaves no used item sound, whatever the byte was for, and
@@ -68,14 +92,22 @@ pub fn flipped() -> Vec<Vec<u8>> {
         sheet
     };
     each! {
-        for good in [good(), smallest(), sheet(&[], 100, 0)];
+        for version in VERSIONS;
+        for good in [good(version), smallest(version), sheet(version, &[], 100, 0)];
         (0..good.len()).map(|at| flip(&good, at))
     }
 }
 
+/// The small sheets of each version.
+pub fn small() -> Vec<Vec<u8>> {
+    VERSIONS.map(small_in).concat()
+}
+
 /// Every sheet of one word, and of two, with up to two syllables of up to two phones, and of two words with every two
 /// sources; in their order, from behind, and with each two neighbours swapped. Some have room behind them.
-pub fn small() -> Vec<Vec<u8>> {
+fn small_in(version: u8) -> Vec<Vec<u8>> {
+    let word = |text: &str, source: u8, own: &[&str]| word_in(version, text, source, own);
+    let sheet = |placed: &[Placed], behind, fill| sheet(version, placed, behind, fill);
     let syllables: [&[&str]; 5] =
         [&[], &["0 k"], &["1 k t"], &["0 k", "1 t"], &["1 k t", "0 ae s"]];
     let mut words: Vec<Vec<Word>> = vec![vec![]];
@@ -104,14 +136,24 @@ pub fn small() -> Vec<Vec<u8>> {
     all
 }
 
-/// Sheets at 01's limits, and just past them.
+/// Lengths about the least that 01 accepts, and about the largest.
+const SHORT: [usize; 11] = [0, 1, 63, 64, 65, 127, 128, 129, 191, 192, 640];
+const LONG: [usize; 6] =
+    [LARGEST - ITEM, LARGEST - 1, LARGEST, LARGEST + 1, LARGEST + ITEM, 2 * LARGEST];
+
+/// Sheets at 01's limits, and just past them, of each version and of none.
 pub fn limits() -> Vec<Vec<u8>> {
-    let good = good();
-    let mut all = vec![good.clone(), smallest()];
-    let lengths = [0, 1, 63, 64, 65, 127, 128, 129, 191, 192, 640];
-    all.extend(lengths.map(|len| resized(&good, len)));
-    let longest = [LARGEST - ITEM, LARGEST - 1, LARGEST, LARGEST + 1, LARGEST + ITEM, 2 * LARGEST];
-    all.extend(lengths.into_iter().chain(longest).map(|len| vec![0; len]));
+    let without_version = SHORT.into_iter().chain(LONG).map(|len| vec![0; len]);
+    VERSIONS.into_iter().flat_map(limits_in).chain(without_version).collect()
+}
+
+fn limits_in(version: u8) -> Vec<Vec<u8>> {
+    let word = |text: &str, source: u8, own: &[&str]| word_in(version, text, source, own);
+    let sheet = |placed: &[Placed], behind, fill| sheet(version, placed, behind, fill);
+    let (good, new) = (good(version), sheet(&[], 0, 0));
+    let mut all = vec![good.clone(), smallest(version)];
+    all.extend(SHORT.map(|len| resized(&good, len)));
+    all.extend(SHORT.into_iter().chain(LONG).map(|len| resized(&new, len)));
     // cut behind its last used item, within it, and before it
     let used = sheets::unused(&good);
     all.extend([used + 63, used, used - 1, used - ITEM].map(|len| good[..len].to_vec()));
@@ -127,14 +169,17 @@ pub fn limits() -> Vec<Vec<u8>> {
     // longest texts, empty ones, and bytes that no word of a text has
     let longest = word(&"w".repeat(47), 1, &["0 abcdefghijklmno", "1 pppppppppppp111"]);
     let empty = word("", 3, &["0  ", "1 "]);
-    let odd = word("a\0 :\x7f", 4, &["1 zz ae1 \x7f\0", "0 pau"]);
+    let odd = word("a\0 :\x7f", 4, &["1 zz ae1 ae2 2 \x7f\0", "0 pau"]);
     all.push(sheet(&in_order(&[longest, empty, odd]), 1_000, 0xff));
-    all.extend(unsound());
+    all.extend(unsound(version));
     all
 }
 
 /// Changes to the sheet of `unsound`, parted by commas; a byte stands as item.field=value.
-const CHANGES: [&str; 12] = [
+const CHANGES: [&str; 13] = [
+    // versions that are not known, and stresses beside versions
+    "0.1=0, 0.1=3, 0.1=255, 0.0=1 0.1=0, 0.0=2 0.1=0, 0.14=1 0.1=0, 0.14=2 0.1=0, 0.2=1 0.1=0, 0.3=2 0.1=0,
+    2.1=50, 0.1=1 2.1=50, 0.1=2 2.1=50, 0.1=1 7.1=50, 0.1=2 7.1=50, 0.1=2 7.1=51, 0.1=3 7.1=51, 0.1=0 7.1=50",
     // the phones in another order: forwards, backwards, and both ways
     "0.12=4 4.12=3 3.12=9, 0.10=9 9.10=8 8.10=4, 3.12=8 8.12=9 9.12=0 0.10=9 9.10=8 8.10=3",
     // a phone left out of both chains; a ring of phones
@@ -162,7 +207,8 @@ const CHANGES: [&str; 12] = [
 ];
 
 /// Sheets that break one part of what sound means, where altering one byte does not do it.
-fn unsound() -> Vec<Vec<u8>> {
+fn unsound(version: u8) -> Vec<Vec<u8>> {
+    let sheet = |placed: &[Placed], behind, fill| sheet(version, placed, behind, fill);
     // items: 1 a, 2 its syllable, 3 and 4 its phones; 5 b, 6 and 7 its syllables with the phones
     // 8 behind 7 and 9 behind 6
     let mut placed = in_order(&[word("a", 1, &["1 k ae"]), word("b", 4, &["0 t", "1 s"])]);
@@ -193,7 +239,15 @@ rows! { pub SHEET:
         let ordered = (1..).zip(items).all(|(at, item)| at == item);
         let unused = &sheet[sheets::unused(sheet)..];
         let has = |source: u8| words.iter().any(|placed| placed.word.source == source);
+        let version = sheets::version(sheet);
+        let mut syllables = words.iter().flat_map(|placed| &placed.word.syllables);
+        let mut phones = words.iter().flat_map(|placed| placed.word.phones());
     } [
+        "sheet of version 1" => version == 1,
+        "sheet of version 2" => version == 2,
+        "sheet with a stress 50" => syllables.any(|syllable| syllable.stress == b'2'),
+        "sheet of version 2 with a phone that ends in 2" =>
+            version == 2 && phones.any(|phone| phone.ends_with(b"2")),
         "sheet without words" => words.is_empty(),
         "sheet with a runtime word" => has(1),
         "sheet with an addenda word" => has(2),

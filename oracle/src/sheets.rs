@@ -1,4 +1,4 @@
-//! The sheet: 01's layout, read and written by the driver itself.
+//! The sheet: 01's layout with 02's version (S-9), read and written by the driver itself.
 
 use crate::prelude::*;
 use crate::records::{number, put, zeros};
@@ -8,6 +8,8 @@ use crate::spoken::{Syllable, Word};
 pub const ITEM: usize = 64;
 /// The longest sheet that 01 accepts.
 pub const LARGEST: usize = 65_536;
+/// The known versions.
+pub const VERSIONS: [u8; 2] = [1, 2];
 
 // The kinds of items.
 const WORD: u8 = 1;
@@ -26,8 +28,9 @@ const LINKS_END: usize = 14;
 const SOURCE: usize = 15;
 const LEN: usize = 16;
 const TEXT: usize = 17;
-/// In item 0 the number of used items stands where others have their parent.
+/// In item 0 the number of used items stands where others have their parent, and the version where they have a stress.
 const USED: usize = PARENT;
+const VERSION: usize = STRESS;
 
 /// A word on its sheet, and its items: the word, a syllable, its phones, the next syllable.
 #[derive(Clone, PartialEq, Eq)]
@@ -41,9 +44,20 @@ pub fn has_length(len: usize) -> bool {
     (ITEM..=LARGEST).contains(&len)
 }
 
+/// Whether a version is known: the whole number, not its lowest byte.
+pub fn is_version(version: u32) -> bool {
+    VERSIONS.map(u32::from).contains(&version)
+}
+
+/// The version of a sheet, 0 if it has no byte for it.
+pub fn version(sheet: &[u8]) -> u8 {
+    sheet.get(VERSION).copied().unwrap_or(0)
+}
+
 /// The words of a sound sheet; of any other sheet, what is amiss.
 pub fn read(sheet: &[u8]) -> Result<Vec<Placed>, &'static str> {
     of_head(sheet)?;
+    let version = version(sheet);
     let mut tree =
         Tree { seen: vec![false; unused(sheet) / ITEM], items: sheet.chunks_exact(ITEM).collect() };
     let mut words = vec![];
@@ -54,6 +68,7 @@ pub fn read(sheet: &[u8]) -> Result<Vec<Placed>, &'static str> {
         for at in tree.children(at, SYLLABLE)? {
             let below = tree.children(at, PHONE)?;
             of_fields(tree.items[at])?;
+            of_stress(tree.items[at][STRESS], version)?;
             let texts: Result<_, _> = below.iter().map(|at| read_text(tree.items[*at])).collect();
             syllables.push(Syllable { stress: tree.items[at][STRESS], phones: texts? });
             items.push(at);
@@ -107,7 +122,9 @@ checks! { pub UNSOUND:
     of_head(sheet: &[u8]) [
         "sheet: wrong length" => has_length(sheet.len()),
         "sheet: bytes beside item 0's fields" =>
-            zeros(&sheet[..FIRST]) && sheet[LINKS_END] == 0 && zeros(&sheet[LEN..ITEM]),
+            sheet[0] == 0 && zeros(&sheet[NEXT..FIRST]) && sheet[LINKS_END] == 0 && zeros(&sheet[LEN..ITEM]),
+        "sheet: version 0" => version(sheet) != 0,
+        "sheet: version past the known ones" => is_version(version(sheet).into()),
         "sheet: source of item 0" => sheet[SOURCE] == 0,
         "sheet: more used than there are items" => unused(sheet) <= sheet.len(),
     ]
@@ -142,7 +159,6 @@ checks! { pub UNSOUND:
         "sheet: phone links of a word or a syllable" => phone || zeros(&item[BEFORE..LINKS_END]),
         "sheet: child of a phone" => !phone || zeros(&item[FIRST..PARENT]),
         "sheet: syllable with a text" => !syllable || zeros(&item[LEN..]),
-        "sheet: stress that is neither 48 nor 49" => !syllable || matches!(item[STRESS], b'0' | b'1'),
         "sheet: stress of a word or a phone" => syllable || item[STRESS] == 0,
         "sheet: word without a source" => !word || item[SOURCE] != 0,
         "sheet: word of a source past the last" => !word || item[SOURCE] <= sources::LETTERS,
@@ -151,6 +167,12 @@ checks! { pub UNSOUND:
         "sheet: phone over 15 bytes" => !phone || len < CELL,
         "sheet: text with a high byte" => item[TEXT..][..len].is_ascii(),
         "sheet: bytes past a text" => zeros(&item[TEXT + len..]),
+    ]
+
+    /// A syllable's stress in a sheet of this version.
+    of_stress(stress: u8, version: u8) [
+        "sheet: stress that is none of 48 to 50" => matches!(stress, b'0'..=b'2'),
+        "sheet: stress 50 in version 1" => stress != b'2' || version == 2,
     ]
 
     /// All used items.
@@ -194,13 +216,13 @@ impl Written {
     }
 }
 
-/// The sheet with these words in their items, which are 1 to so many. Every used item is written whole; the
-/// bytes behind stay as they are.
-pub fn write(sheet: &[u8], placed: &[Placed]) -> Vec<u8> {
+/// The sheet of a version with these words in their items, which are 1 to so many. Every used item is written whole;
+/// the bytes behind stay as they are.
+pub fn write(sheet: &[u8], version: u8, placed: &[Placed]) -> Vec<u8> {
     let mut sheet = Written(sheet.to_vec());
     // item 0 stands before the first phone and behind the last
     let mut ring = vec![0];
-    sheet.item(0, 0, 0, b"");
+    sheet.item(0, 0, version, b"");
     for Placed { word, items } in placed {
         sheet.item(items[0], WORD, 0, &word.text);
         sheet.0[ITEM * items[0] + SOURCE] = word.source;
@@ -236,7 +258,7 @@ pub fn with_word(sheet: &[u8], before: &[Placed], word: &Word) -> Vec<u8> {
     let used = used(before);
     let mut words = before.to_vec();
     words.push(Placed { word: word.clone(), items: (used + 1..=used + word.items()).collect() });
-    let after = write(sheet, &words);
+    let after = write(sheet, version(sheet), &words);
     assert!(read(&after).as_ref() == Ok(&words), "the driver does not read what it wrote");
     let last_word = before.last().map_or(0, |placed| placed.items[0]);
     // a word that has phones ends with one
@@ -268,9 +290,9 @@ pub fn renumbered(placed: &[Placed], numbers: impl IntoIterator<Item = usize>) -
     placed
 }
 
-/// A new sheet over some bytes.
-pub fn new(bytes: &[u8]) -> Vec<u8> {
-    write(bytes, &[])
+/// A new sheet of a version over some bytes.
+pub fn new(bytes: &[u8], version: u8) -> Vec<u8> {
+    write(bytes, version, &[])
 }
 
 /// The items of a sheet that words can have.
@@ -283,9 +305,10 @@ pub fn unused(sheet: &[u8]) -> usize {
     ITEM * (number(&sheet[USED..]) + 1)
 }
 
-/// What reading a sheet gives, by its links alone: the words, and the phones forwards and backwards.
+/// What reading a sheet gives, by its links alone: the version, the words, and the phones forwards and backwards.
 #[derive(PartialEq, Eq)]
 pub struct Reading {
+    pub version: u8,
     pub words: Vec<Word>,
     pub forwards: Vec<Vec<u8>>,
     pub backwards: Vec<Vec<u8>>,
@@ -293,10 +316,10 @@ pub struct Reading {
 
 impl Reading {
     /// What it should be, by what was said.
-    pub fn of(words: &[Word]) -> Reading {
+    pub fn of(version: u8, words: &[Word]) -> Reading {
         let forwards: Vec<Vec<u8>> = words.iter().flat_map(Word::phones).cloned().collect();
         let backwards = forwards.iter().rev().cloned().collect();
-        Reading { words: words.to_vec(), forwards, backwards }
+        Reading { version, words: words.to_vec(), forwards, backwards }
     }
 }
 
@@ -335,5 +358,6 @@ pub fn reading(sheet: &[u8]) -> Option<Reading> {
     let phones = (1..=number(&items[0][USED..])).filter(is_phone);
     let forwards = texts(&chain(0, BEHIND, BEHIND)?)?;
     let backwards = texts(&chain(0, BEFORE, BEFORE)?)?;
-    phones.eq(met).then_some(Reading { words, forwards, backwards })
+    let version = version(sheet);
+    phones.eq(met).then_some(Reading { version, words, forwards, backwards })
 }

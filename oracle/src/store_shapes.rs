@@ -111,7 +111,7 @@ pub fn few_phones(
 pub fn known(random: &mut Random, scene: &Scene, phones: &Phones, count: usize) -> Vec<Vec<u8>> {
     let table = scene.lexicon.names.as_deref().unwrap_or_default();
     let phone = |_| match table.is_empty() || random.once_in(3) {
-        true => random.pick(&phones.names).into(),
+        true => random.pick(phones.names).into(),
         false => table[random.below(table.len())].clone(),
     };
     (0..count).map(phone).collect()

@@ -1,6 +1,7 @@
 //! How many calls were compared, by answer and by what they met.
 
 use crate::call::{row, Asked, Call, Expected};
+use std::collections::BTreeSet;
 
 /// The width of the rows' names.
 const WIDTH: usize = 54;
@@ -26,12 +27,16 @@ impl Tally {
         let answers = C::ANSWERS.iter().map(|answer| answer.to_string());
         let refusals = C::REFUSALS.iter().map(|refusal| row(*refusal, ""));
         let met = C::MET.concat().concat().into_iter().map(String::from);
+        let (answers, met): (Vec<_>, Vec<_>) = (answers.chain(refusals).collect(), met.collect());
+        let mut seen = BTreeSet::new();
+        let twice = answers.iter().chain(&met).find(|name| !seen.insert(*name));
+        assert!(twice.is_none(), "{} has two rows of one name: {twice:?}", C::NAME);
         Tally {
             name: C::NAME,
             share: C::SHARE,
             share_recorded: C::SHARE_RECORDED,
-            answers: answers.chain(refusals).map(|name| (name, 0)).collect(),
-            met: met.map(|name| (name, 0)).collect(),
+            answers: answers.into_iter().map(|name| (name, 0)).collect(),
+            met: met.into_iter().map(|name| (name, 0)).collect(),
             asked: [0; 3],
         }
     }

@@ -155,15 +155,19 @@ fn names(random: &mut Random) -> Vec<Vec<u8>> {
 
 /// Odd names, parted by commas; the first is the empty one.
 const ODD_NAMES: &str = ",-,--,-x,x-,x-y-z,epsilon-x,x-epsilon,epsilon1,epsilo,Epsilon,\
-    aaaaaaa-bbbbbbb,abcdefghijklmno,--------------a,0,1,-1,ae2,a b,ax11";
+    aaaaaaa-bbbbbbb,abcdefghijklmno,--------------a,0,1,-1,ae2,a b,ax11,2,-2,2-,2-2,t2,ae22,ae12,ae21,\
+    ae2-t2,ae2-t2-ax2,epsilon2,t-ae2-";
 
 fn name(random: &mut Random) -> Vec<u8> {
     let known = phoneset::probe::names();
     match random.weighted(&[3, 9, 5, 3, 3, 1]) {
         0 => b"epsilon".to_vec(),
-        1 => (random.pick(&known).to_string() + random.pick(&["", "", "0", "1"])).into(),
+        1 => (random.pick(&known).to_string() + random.pick(&["", "", "0", "1", "2"])).into(),
         2 => format!("{}-{}", random.pick(&known), random.pick(&known)).into(),
-        3 => format!("{}1-{}0", random.pick(&known), random.pick(&known)).into(),
+        3 => {
+            let [left, right] = [(); 2].map(|()| random.pick(&["0", "1", "2"]));
+            format!("{}{left}-{}{right}", random.pick(&known), random.pick(&known)).into()
+        }
         4 => random.pick(&ODD_NAMES.split(',').collect::<Vec<_>>()).into(),
         _ => (0..random.between(0, 15)).map(|_| random.below(128) as u8).collect(),
     }

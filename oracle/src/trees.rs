@@ -3,7 +3,8 @@
 use crate::forever::{hold, Held};
 use crate::prelude::*;
 use crate::records::number;
-use crate::tables::phone_names;
+use crate::stresses::{twin, with_digit_in_both, Twins};
+use crate::tables::{phone_names, phone_table};
 use original::lexicon::Lts;
 
 /// Bytes of a node.
@@ -24,6 +25,7 @@ pub struct Trees {
     /// Whether some node leads outside or is a leaf without a phone.
     pub has_damage: bool,
     original: Option<Held<Lts>>,
+    twins: Twins<Rc<Trees>>,
 }
 
 impl Trees {
@@ -33,7 +35,17 @@ impl Trees {
         let names = phone_names(&sections.phones).filter(|_| fits);
         let original = names.as_ref().map(|_| hold(&sections.parts(), Lts::parse));
         let has_damage = has_damage(&sections.model, names.as_ref().map_or(0, Vec::len));
-        Trees { sections, alphabet, names, has_damage, original }
+        Trees { sections, alphabet, names, has_damage, original, twins: Twins::default() }
+    }
+
+    /// The same with a digit in the place of each phone's last "2".
+    pub fn with_digit(&self, digit: u8) -> &Rc<Trees> {
+        twin(&self.twins, digit, || {
+            let names = self.names.iter().flatten();
+            let names: Vec<Vec<u8>> = names.map(|name| with_digit_in_both(name, digit)).collect();
+            let sections = Sections { phones: phone_table(&names), ..self.sections.clone() };
+            Rc::new(Trees::new(sections, vec![]))
+        })
     }
 
     /// The original's reading of sections that have their form.

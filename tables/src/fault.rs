@@ -22,18 +22,17 @@ impl fmt::Display for Fault {
 
 /// The faults of one source file, gathered so that all of them can be told at once.
 pub struct Faults {
-    file: &'static str,
+    file: String,
     pub list: Vec<Fault>,
 }
 
 impl Faults {
-    pub fn of(file: &'static str) -> Faults {
-        let list = Vec::new();
-        Faults { file, list }
+    pub fn of(file: &str) -> Faults {
+        Faults { file: file.to_string(), list: Vec::new() }
     }
 
     pub fn add(&mut self, line: usize, sentence: impl Into<String>) {
-        self.list.push(Fault { file: self.file.to_string(), line, sentence: sentence.into() });
+        self.list.push(Fault { file: self.file.clone(), line, sentence: sentence.into() });
     }
 
     /// The value if there was no fault.

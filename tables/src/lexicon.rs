@@ -1,6 +1,6 @@
 //! lexicon.txt and the sections lex.phones, lex.index and lex.data.
 
-use std::collections::HashMap;
+use std::collections::{BTreeSet, HashMap};
 
 use crate::fault::{Fault, Faults};
 use crate::lines::{self, Line};
@@ -91,13 +91,18 @@ fn phones_of(text: &str) -> Result<Vec<String>, String> {
     Ok(phones.into_iter().map(str::to_string).collect())
 }
 
-/// The phones of entries, and every vowel with 0 and with 1, so that `add_entries` knows them.
+/// The phones of entries, in order; then every vowel with 0, 1 and 2 that is not among them, so that `add_entries` knows
+/// it. A phone is searched for from the front: those in use are found first.
 pub fn phones(entries: &[Entry]) -> Vec<String> {
-    let used = entries.iter().flat_map(|entry| &entry.phones).cloned();
-    let mut table: Vec<String> = phones::stressed_vowels().chain(used).collect();
-    table.sort();
-    table.dedup();
-    table
+    let mut used = BTreeSet::new();
+    for phone in entries.iter().flat_map(|entry| &entry.phones) {
+        if !used.contains(phone) {
+            used.insert(phone.clone());
+        }
+    }
+    let unused: BTreeSet<String> =
+        phones::stressed_vowels().filter(|vowel| !used.contains(vowel)).collect();
+    used.into_iter().chain(unused).collect()
 }
 
 fn number(table: &[String], phone: &String) -> u8 {
@@ -152,10 +157,16 @@ mod tests {
     }
 
     #[test]
-    fn phones_hold_every_vowel_with_both_digits() {
+    fn phones_hold_every_vowel_with_each_digit() {
         let table = phones(&read(b"go : g ow1").expect("the text is right"));
-        assert_eq!(table.len(), 41);
-        assert!(["oy0", "oy1", "g"].iter().all(|p| table.contains(&p.to_string())));
+        assert_eq!(table.len(), 61);
+        assert!(["oy0", "oy1", "oy2", "g"].iter().all(|p| table.contains(&p.to_string())));
+    }
+
+    #[test]
+    fn an_entry_may_have_a_secondary_stress() {
+        let entries = read(b"up : ah2 p").expect("the text is right");
+        assert_eq!(entries[0].phones, ["ah2", "p"]);
     }
 
     #[test]
@@ -171,8 +182,8 @@ mod tests {
             (format!("a :{many}"), "line 1: the entry has 97 phones; write at most 96"),
             ("# é\na : k".to_string(), "line 1: has a byte of 128 or more; write plain letters"),
             ("a : k q".to_string(), "line 1: \"q\" is no phone; write one of the 50"),
-            ("a : ae2".to_string(), "line 1: \"ae2\" is no phone; write one of the 50"),
-            ("a : k1 ae".to_string(), "line 1: \"k1\" has a stress behind a consonant; write k, and 0 or 1"),
+            ("a : ae3".to_string(), "line 1: \"ae3\" is no phone; write one of the 50"),
+            ("a : k1 ae".to_string(), "line 1: \"k1\" has a stress behind a consonant; write k, and 0, 1 or 2"),
             ("a n : k\n\"A\" noun : t".to_string(), "line 2: \"a\" with tag \"n\" stands at line 1 too; keep one"),
         ];
         for (text, said) in cases {

@@ -1,6 +1,7 @@
 //! Makes the eight sections from plain text. `tables/README.md` tells the format.
 
 mod checksums;
+mod cmudict;
 mod contexts;
 mod fault;
 mod flite;
@@ -23,8 +24,8 @@ use fault::Fault;
 
 const USAGE: &str =
     "say tables/make SOURCE_FOLDER OUTPUT_FOLDER, tables/try SOURCE_FOLDER WORD ..., \
-    or tables/from_flite OUTPUT_FOLDER [FOLDER_OF_THE_LIBRARIES]";
-/// The most faults that are told at once.
+    tables/from_cmudict FILE FOLDER, or tables/from_flite OUTPUT_FOLDER [FOLDER_OF_THE_LIBRARIES]";
+/// The most lines that are told at once.
 const MOST_TOLD: usize = 20;
 
 fn main() -> ExitCode {
@@ -33,6 +34,7 @@ fn main() -> ExitCode {
     let arguments: Vec<&str> = arguments.iter().map(|a| a.as_ref()).collect();
     let outcome = match arguments[..] {
         ["make", source, output] => make(Path::new(source), Path::new(output)),
+        ["cmudict", file, folder] => from_cmudict(Path::new(file), Path::new(folder)),
         ["flite", output] => from_flite(None, Path::new(output)),
         ["flite", output, libraries] => from_flite(Some(Path::new(libraries)), Path::new(output)),
         ["try", source, ref words @ ..] if !words.is_empty() => say(Path::new(source), words),
@@ -62,6 +64,19 @@ fn tell(faults: &[Fault]) {
 fn make(source: &Path, output: &Path) -> Result<(), Vec<Fault>> {
     let made = sections::make(source)?;
     write(&made, output).map_err(|fault| vec![fault])
+}
+
+/// Writes the lexicon.txt of a file in CMUdict's form, and tells the lines that are left out.
+fn from_cmudict(file: &Path, folder: &Path) -> Result<(), Vec<Fault>> {
+    let read = cmudict::make(file, folder)?;
+    tell(&read.left_out);
+    let (entries, alternates, left_out) =
+        (read.entries.len(), read.alternates(), read.left_out.len());
+    let folder = folder.display();
+    print(&format!(
+        "{folder}: {entries} entries, {alternates} of them alternates, {left_out} left out"
+    ));
+    Ok(())
 }
 
 /// Writes the sections of flite's libraries.

@@ -17,9 +17,12 @@ const VOWELS: [&str; 20] = [
 /// The most phones that a table holds.
 pub const MOST_PHONES: usize = 256;
 
+/// The digits of stress: none, primary and secondary.
+pub const DIGITS: [char; 3] = ['0', '1', '2'];
+
 /// A phone without its last stress digit.
-fn bare(phone: &str) -> &str {
-    phone.strip_suffix(['0', '1']).unwrap_or(phone)
+pub fn bare(phone: &str) -> &str {
+    phone.strip_suffix(DIGITS).unwrap_or(phone)
 }
 
 pub fn is_vowel(bare: &str) -> bool {
@@ -31,13 +34,13 @@ pub fn check(phone: &str) -> Result<(), String> {
     let bare = bare(phone);
     if !PHONES.contains(&bare) {
         return Err(format!(
-            "\"{phone}\" is no phone; write one of the 50, and 0 or 1 behind a vowel: {}",
+            "\"{phone}\" is no phone; write one of the 50, and 0, 1 or 2 behind a vowel: {}",
             PHONES.join(" ")
         ));
     }
     if bare != phone && !is_vowel(bare) {
         return Err(format!(
-            "\"{phone}\" has a stress behind a consonant; write {bare}, and 0 or 1 behind a vowel only"
+            "\"{phone}\" has a stress behind a consonant; write {bare}, and 0, 1 or 2 behind a vowel only"
         ));
     }
     Ok(())
@@ -45,7 +48,7 @@ pub fn check(phone: &str) -> Result<(), String> {
 
 /// Every vowel with each digit.
 pub fn stressed_vowels() -> impl Iterator<Item = String> {
-    VOWELS.iter().flat_map(|vowel| [format!("{vowel}0"), format!("{vowel}1")])
+    VOWELS.iter().flat_map(|vowel| DIGITS.map(|digit| format!("{vowel}{digit}")))
 }
 
 /// A section of phones: a u32 count, then each text behind its length.
@@ -64,18 +67,33 @@ mod tests {
 
     #[test]
     fn a_vowel_has_one_digit_or_none_and_a_consonant_none() {
-        for phone in ["ae", "ae0", "ae1", "t", "pau", "el1"] {
+        for phone in ["ae", "ae0", "ae1", "ae2", "t", "pau", "el1"] {
             assert_eq!(check(phone), Ok(()));
         }
-        for phone in ["ae2", "ae11", "", "0"] {
+        for phone in ["ae3", "ae11", "ae12", "", "2"] {
             assert!(
                 check(phone).is_err_and(|told| told.contains("is no phone; write one of the 50"))
             );
         }
-        for phone in ["t0", "t1", "pau0"] {
+        for phone in ["t0", "t1", "t2", "pau0"] {
             assert!(check(phone)
                 .is_err_and(|told| told.contains("has a stress behind a consonant; write")));
         }
+    }
+
+    #[test]
+    fn what_to_write_behind_a_vowel_is_told() {
+        for phone in ["eyy", "t2"] {
+            let told = check(phone).expect_err("it is no phone");
+            assert!(told.contains(", and 0, 1 or 2 behind a vowel"), "{told}");
+        }
+    }
+
+    #[test]
+    fn all_phones_with_all_digits_fit_into_a_table() {
+        let bare = PHONES.iter().map(|phone| phone.to_string());
+        assert_eq!(stressed_vowels().chain(bare).count(), 110);
+        const { assert!(110 <= MOST_PHONES) };
     }
 
     #[test]

@@ -59,22 +59,25 @@ pub fn gather(
 
 /// The bytes of a source file.
 pub fn source_text(folder: &Path, file: &'static str) -> Result<Vec<u8>, Vec<Fault>> {
-    let path = folder.join(file);
-    fs::read(&path).map_err(|error| {
+    let missing =
+        "there is no such file; write it (tables/README.md tells how), or name another folder";
+    bytes(&folder.join(file), missing)
+}
+
+/// The bytes of a file, and what is told where there is none.
+pub fn bytes(path: &Path, missing: &str) -> Result<Vec<u8>, Vec<Fault>> {
+    fs::read(path).map_err(|error| {
         let sentence = match error.kind() {
-            ErrorKind::NotFound => {
-                "there is no such file; write it (tables/README.md tells how), or name another folder"
-                    .to_string()
-            }
+            ErrorKind::NotFound => missing.to_string(),
             _ => format!("cannot be read ({error}); see to it that you may read it"),
         };
-        vec![whole_file(&path, sentence)]
+        vec![whole_file(path, sentence)]
     })
 }
 
 /// Writes the sections and then their checksums into a folder, which is made where it is missing.
 pub fn write(made: &Made, folder: &Path) -> Result<(), Fault> {
-    fs::create_dir_all(folder).map_err(|error| unwritable(folder, &error))?;
+    make_folder(folder)?;
     for (name, bytes) in &made.files {
         write_file(&folder.join(name), bytes)?;
     }
@@ -82,7 +85,12 @@ pub fn write(made: &Made, folder: &Path) -> Result<(), Fault> {
     write_file(&folder.join(checksums::FILE), sums.as_bytes())
 }
 
-fn write_file(path: &Path, bytes: &[u8]) -> Result<(), Fault> {
+/// Makes a folder where it is missing.
+pub fn make_folder(folder: &Path) -> Result<(), Fault> {
+    fs::create_dir_all(folder).map_err(|error| unwritable(folder, &error))
+}
+
+pub fn write_file(path: &Path, bytes: &[u8]) -> Result<(), Fault> {
     fs::write(path, bytes).map_err(|error| unwritable(path, &error))
 }
 

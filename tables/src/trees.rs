@@ -214,6 +214,7 @@ mod tests {
         let rules = "[e]| =\n[e] = eh1\n[x] = k s\n";
         assert_eq!(say(rules, "exe"), "eh1 k s");
         assert_eq!(say(rules, "X-1"), "k s");
+        assert_eq!(say("[e] = eh2\n[u] = y uw2\n", "eu"), "eh2 y uw2");
     }
 
     #[test]
@@ -251,7 +252,7 @@ mod tests {
             ("[ab] = ey", "\"[ab]\" is no letter; write one letter from a to z in brackets"),
             ("[A] = ey", "\"[A]\" is no letter; write"),
             ("[a] = eyy", "\"eyy\" is no phone; write one of the 50"),
-            ("[a] = k1", "\"k1\" has a stress behind a consonant; write k, and 0 or 1 behind a vowel only"),
+            ("[a] = k1", "\"k1\" has a stress behind a consonant; write k, and 0, 1 or 2 behind a vowel only"),
             ("[a] = k s t", "a letter gives at most two phones, and here are 3; give the others"),
             ("[a]NAME = ey", "NAME is not defined; write NAME = CONTEXTS in an earlier line"),
             ("[a]bcdef = ey", "the context reaches 5 letters far; write at most 4"),

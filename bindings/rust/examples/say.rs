@@ -3,7 +3,9 @@
 //!     cargo run --features std --example say -- lead gobo
 //!     SECTIONS=folder cargo run --features std --example say -- lead gobo
 
-use pronouncer::{example, Letters, Lexicon, Sheet, Store, Tables, ITEM_BYTES, SLOT_BYTES};
+use pronouncer::{
+    example, Letters, Lexicon, Sheet, SheetVersion, Store, Tables, ITEM_BYTES, SLOT_BYTES,
+};
 use std::env;
 use std::error::Error;
 
@@ -24,7 +26,7 @@ fn say(lexicon: &Lexicon, letters: &Letters, words: &[String]) -> Result<(), Box
     }
     let (mut slots, mut items) = ([0; SLOT_BYTES], [0; 1024 * ITEM_BYTES]);
     let store = Store::new_store(&mut slots)?;
-    let mut sheet = Sheet::new_sheet(&mut items)?;
+    let mut sheet = Sheet::new_sheet(&mut items, SheetVersion::V2)?;
     for word in words {
         match sheet.say_word(lexicon, letters, &store, word, "") {
             Ok(said) if said.place() > 0 => {

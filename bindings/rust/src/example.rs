@@ -8,8 +8,9 @@ use crate::RECORD_BYTES;
 /// cat (noun), lead (noun) and lead (verb); and phones with stress to add others.
 pub const LEXICON: Lexicon<'static> = Lexicon {
     phones:
-        b"\x16\0\0\0\x01k\x03ae1\x01t\x01l\x03iy1\x03eh1\x01d\x03ae0\x03iy0\x03eh0\x03ih0\x03ih1\
-        \x03er0\x03er1\x03ow0\x03ow1\x03ay0\x03ay1\x03ao0\x03ao1\x03ah0\x03ah1",
+        b"\x1f\0\0\0\x01k\x03ae1\x01t\x01l\x03iy1\x03eh1\x01d\x03ae0\x03iy0\x03eh0\x03ih0\x03ih1\
+        \x03er0\x03er1\x03ow0\x03ow1\x03ay0\x03ay1\x03ao0\x03ao1\x03ah0\x03ah1\
+        \x03ae2\x03iy2\x03eh2\x03ih2\x03er2\x03ow2\x03ay2\x03ao2\x03ah2",
     index: b"\x03\0\0\0\x00\0\0\0\x09\0\0\0\x13\0\0\0",
     data: b"n\x03cat\x03\x00\x01\x02n\x04lead\x03\x03\x05\x06v\x04lead\x03\x03\x04\x06",
 };

@@ -174,7 +174,7 @@ extern "C" {
         spare_len: usize,
     ) -> Answer;
 
-    fn pronouncer_new_sheet(sheet: *mut u8, sheet_len: usize) -> Answer;
+    fn pronouncer_new_sheet(sheet: *mut u8, sheet_len: usize, version: u32) -> Answer;
 
     fn pronouncer_say_word(
         phones: *const u8,
@@ -370,8 +370,8 @@ pub fn accept_entries(store: &mut [u8], spare: &[u8]) -> Answer {
     }
 }
 
-pub fn new_sheet(sheet: &mut [u8]) -> Answer {
-    unsafe { pronouncer_new_sheet(sheet.as_mut_ptr(), sheet.len()) }
+pub fn new_sheet(sheet: &mut [u8], version: u32) -> Answer {
+    unsafe { pronouncer_new_sheet(sheet.as_mut_ptr(), sheet.len(), version) }
 }
 
 pub fn say_word(

@@ -9,6 +9,7 @@ pub const SYLLABLE: u8 = 2;
 pub const PHONE: u8 = 3;
 const KIND: usize = 0;
 pub const STRESS: usize = 1;
+pub const VERSION: usize = 1;
 const NEXT: usize = 2;
 const FIRST_CHILD: usize = 4;
 const PARENT: usize = 8;
@@ -38,6 +39,12 @@ impl<'s> Items<'s> {
 
     pub fn byte(self, at: usize, place: usize) -> u8 {
         self.0[ITEM_BYTES * at + place]
+    }
+
+    /// Whether a syllable, linked or not, has this byte as its stress.
+    pub fn have_stress(self, byte: u8) -> bool {
+        let mut items = self.0.chunks_exact(ITEM_BYTES).skip(1);
+        items.any(|item| item[KIND] == SYLLABLE && item[STRESS] == byte)
     }
 
     fn field(self, at: usize, place: usize) -> usize {

@@ -8,7 +8,7 @@
 //! was, but for the spare of [`Store::add_entries`] and [`Store::preview_entries`].
 //!
 //! ```
-//! use pronouncer::{example, Sheet, Store};
+//! use pronouncer::{example, Sheet, SheetVersion, Store};
 //!
 //! // A show's tables come from files; these are a few words to try the calls with.
 //! let (lexicon, letters) = (example::LEXICON, example::LETTERS);
@@ -19,7 +19,7 @@
 //! store.add_entries(&lexicon, &mut spare, "tormentor n : t ao0 r m eh1 n t er0")?;
 //!
 //! let mut items = [0; 256 * pronouncer::ITEM_BYTES];
-//! let mut sheet = Sheet::new_sheet(&mut items)?;
+//! let mut sheet = Sheet::new_sheet(&mut items, SheetVersion::V2)?;
 //! for word in "lead tormentor".split(' ') {
 //!     sheet.say_word(&lexicon, &letters, &store, word, "n")?;
 //! }
@@ -81,6 +81,7 @@ mod store;
 #[cfg(feature = "std")]
 mod tables;
 mod unsound;
+mod version;
 
 pub use entries::{Entries, Entry};
 pub use phones::{is_vowel, split_stress, ListedPhones, PhoneList, Stress};
@@ -93,6 +94,7 @@ pub use store::Store;
 #[cfg(feature = "std")]
 pub use tables::{read_section, Tables, TablesError, SECTION_NAMES};
 pub use unsound::Unsound;
+pub use version::SheetVersion;
 
 /// Bytes of a slot of the store.
 pub const SLOT_BYTES: usize = 512;

@@ -162,23 +162,27 @@ impl fmt::Debug for PhoneList<'_> {
 /// ```
 /// use pronouncer::Stress;
 ///
-/// assert_eq!((Stress::Unstressed.to_string(), Stress::Stressed.to_string()), ("0".into(), "1".into()));
+/// let all = [Stress::Unstressed, Stress::Stressed, Stress::Secondary];
+/// assert_eq!(all.map(|stress| stress.to_string()), ["0", "1", "2"]);
 /// ```
 #[derive(Debug, Clone, Copy, PartialEq, Eq, Hash)]
 #[non_exhaustive]
 pub enum Stress {
     /// "0"
     Unstressed,
-    /// "1"
+    /// "1": the primary stress.
     Stressed,
+    /// "2": the secondary stress, which a sheet of version 1 does not have.
+    Secondary,
 }
 
 impl Stress {
-    /// The digit behind a phone, and of a syllable on the sheet: `'0'` or `'1'`.
+    /// The digit behind a phone, and of a syllable on the sheet: `'0'`, `'1'` or `'2'`.
     pub fn digit(self) -> char {
         match self {
             Stress::Unstressed => '0',
             Stress::Stressed => '1',
+            Stress::Secondary => '2',
         }
     }
 
@@ -186,6 +190,7 @@ impl Stress {
         match digit {
             b'0' => Some(Stress::Unstressed),
             b'1' => Some(Stress::Stressed),
+            b'2' => Some(Stress::Secondary),
             _ => None,
         }
     }
@@ -208,7 +213,8 @@ pub fn is_vowel(phone: &str) -> bool {
     foreign::is_vowel(phone.as_bytes()).kind == 1
 }
 
-/// A phone without its stress, and the stress: the last "0" or "1", if it has one. Beyond the fifteen calls.
+/// A phone without its stress, and the stress: the last "0" or "1", if it has one. So it is by version 1 of a
+/// sheet: a "2" stays. Beyond the fifteen calls.
 ///
 /// ```
 /// use pronouncer::{split_stress, Stress};

@@ -38,7 +38,7 @@ pub enum Refusal {
     /// 12: the spare to be accepted was filled from the store as it was before something else was accepted, or from
     /// a text that stopped at a line; or the store's count is the largest.
     Count,
-    /// 15: the version of the settings or the reader's is neither 1 nor 2.
+    /// 15: a version is not known: that of a sheet to begin, of settings or of their reader.
     Version,
     /// 16: the settings' records break their form, or a setting to be written is unknown or has no record.
     Records,
@@ -109,7 +109,9 @@ impl Refusal {
                 "the spare was filled from the store as it was before something else was accepted, \
                  or from a text that stopped at a line, or the store's count is the largest"
             }
-            Refusal::Version => "the version of the settings or the reader's is neither 1 nor 2",
+            Refusal::Version => {
+                "a version is not known: that of a sheet to begin, of settings or of their reader"
+            }
             Refusal::Records => {
                 "the settings have an index outside, a circle, a name twice or a length or kind out of range, \
                  or the setting to write is unknown to that version or has no record"
@@ -153,7 +155,8 @@ impl Refusal {
                  begin a new store and add its entries again"
             }
             Refusal::Version => {
-                "ask with version 1 or 2; settings of another version are read by the library that has it, \
+                "begin a sheet with version 1 or 2, and ask for settings with 1 or 2; \
+                 settings of another version are read by the library that has it, \
                  or written anew as docs/FORMATS.md lays them out"
             }
             Refusal::Records => {

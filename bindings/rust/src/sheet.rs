@@ -2,12 +2,13 @@ use core::fmt;
 use core::iter::FusedIterator;
 
 use crate::foreign;
-use crate::items::{Chain, Items, PHONE, SOURCE, STRESS, SYLLABLE, WORD};
+use crate::items::{Chain, Items, PHONE, SOURCE, STRESS, SYLLABLE, VERSION, WORD};
 use crate::phones::Stress;
 use crate::refusal::Refused;
 use crate::sections::{Letters, Lexicon, Source};
 use crate::store::Store;
 use crate::unsound;
+use crate::version::SheetVersion;
 use crate::{PHONE_BYTES, WORD_BYTES};
 
 /// A sheet in lent bytes: the words said so far, with their syllables and phones.
@@ -16,11 +17,11 @@ use crate::{PHONE_BYTES, WORD_BYTES};
 /// there are 1,023 of them.
 ///
 /// ```
-/// use pronouncer::{example, Sheet, Store};
+/// use pronouncer::{example, Sheet, SheetVersion, Store};
 ///
 /// let (mut slots, mut items) = ([0; 512], [0; 64 * 64]);
 /// let store = Store::new_store(&mut slots)?;
-/// let mut sheet = Sheet::new_sheet(&mut items)?;
+/// let mut sheet = Sheet::new_sheet(&mut items, SheetVersion::V2)?;
 /// for word in ["lead", "cat"] {
 ///     sheet.say_word(&example::LEXICON, &example::LETTERS, &store, word, "")?;
 /// }
@@ -41,25 +42,60 @@ pub struct Sheet<'a> {
 }
 
 impl<'a> Sheet<'a> {
-    /// Begins a sheet without words, in bytes that may hold anything. Only the first 64 are written.
+    /// Begins a sheet without words, in bytes that may hold anything. Only the first 64 are written. The version
+    /// decides which stresses words have there.
     ///
     /// # Errors
     ///
     /// [`Unsound`](crate::Refusal::Unsound) if there are not 64 to 65,536 bytes.
-    pub fn new_sheet(bytes: &'a mut [u8]) -> Result<Sheet<'a>, Refused> {
-        foreign::new_sheet(bytes).accepted_on(|| unsound::in_sheet(bytes))?;
+    ///
+    /// ```
+    /// use pronouncer::{example, Sheet, SheetVersion, Store};
+    ///
+    /// let (mut slots, mut spare, mut items) = ([0; 1024], [0; 1024], [0; 64 * 64]);
+    /// let mut store = Store::new_store(&mut slots)?;
+    /// store.add_entries(&example::LEXICON, &mut spare, "limelight : l ay1 m l ay2 t")?;
+    /// let mut said = |version| {
+    ///     let mut sheet = Sheet::new_sheet(&mut items, version)?;
+    ///     sheet.say_word(&example::LEXICON, &example::LETTERS, &store, "limelight", "")?;
+    ///     Ok::<String, pronouncer::Refused>(format!("{sheet:?}"))
+    /// };
+    ///
+    /// assert_eq!(said(SheetVersion::V2)?, "[limelight[l ay m 1, l ay t 2]]");
+    /// // Version 1 knows no secondary stress, so "ay2" is no vowel there.
+    /// assert_eq!(said(SheetVersion::V1)?, "[limelight[l ay m l ay2 t 1]]");
+    /// # Ok::<(), pronouncer::Refused>(())
+    /// ```
+    pub fn new_sheet(bytes: &'a mut [u8], version: SheetVersion) -> Result<Sheet<'a>, Refused> {
+        foreign::new_sheet(bytes, version.number()).accepted_on(|| unsound::in_sheet(bytes))?;
         Ok(Sheet { bytes })
     }
 
     /// Bytes that hold a sheet already. They are not looked at here: a call on bytes that are no sound sheet
-    /// is refused with [`Unsound`](crate::Refusal::Unsound).
+    /// is refused with [`Unsound`](crate::Refusal::Unsound), as are sheets that an earlier library began.
     pub fn over(bytes: &'a mut [u8]) -> Sheet<'a> {
         Sheet { bytes }
     }
 
+    /// The version that it was begun with; none where that is unknown, as it is on no sound sheet.
+    ///
+    /// ```
+    /// use pronouncer::{Sheet, SheetVersion};
+    ///
+    /// let mut items = [0; 64 * 64];
+    /// assert_eq!(Sheet::over(&mut items).version(), None);
+    /// let sheet = Sheet::new_sheet(&mut items, SheetVersion::V2)?;
+    /// assert_eq!(sheet.version(), Some(SheetVersion::V2));
+    /// # Ok::<(), pronouncer::Refused>(())
+    /// ```
+    pub fn version(&self) -> Option<SheetVersion> {
+        let number = u32::from(*self.bytes.get(VERSION)?);
+        SheetVersion::try_from(number).ok()
+    }
+
     /// Says a word: puts it last, with the phones that [`Lexicon::lookup`] finds, or else
-    /// [`Letters::predict`] tells, cut into syllables. [`Said::place`] tells where the letters stopped, and
-    /// [`Word::source`] of the word where its phones came from.
+    /// [`Letters::predict`] tells, cut into syllables; which digits are stresses the sheet's version decides.
+    /// [`Said::place`] tells where the letters stopped, and [`Word::source`] of the word where its phones came from.
     ///
     /// # Errors
     ///
@@ -93,11 +129,11 @@ impl<'a> Sheet<'a> {
     /// than the string.
     ///
     /// ```
-    /// use pronouncer::{example, Sheet, Store};
+    /// use pronouncer::{example, Sheet, SheetVersion, Store};
     ///
     /// let (mut slots, mut items, mut out) = ([0; 512], [0; 64 * 64], [0; 80]);
     /// let store = Store::new_store(&mut slots)?;
-    /// let mut sheet = Sheet::new_sheet(&mut items)?;
+    /// let mut sheet = Sheet::new_sheet(&mut items, SheetVersion::V2)?;
     /// sheet.say_word(&example::LEXICON, &example::LETTERS, &store, "lead", "v")?;
     /// assert_eq!(sheet.phone_string(&mut out)?, "l iy d");
     /// # Ok::<(), pronouncer::Refused>(())
@@ -153,11 +189,11 @@ impl Said {
     /// were not read, since the word was found whole. What stands from there on was said.
     ///
     /// ```
-    /// use pronouncer::{example, Sheet, Store};
+    /// use pronouncer::{example, Sheet, SheetVersion, Store};
     ///
     /// let (mut slots, mut items) = ([0; 512], [0; 64 * 64]);
     /// let store = Store::new_store(&mut slots)?;
-    /// let mut sheet = Sheet::new_sheet(&mut items)?;
+    /// let mut sheet = Sheet::new_sheet(&mut items, SheetVersion::V2)?;
     /// let mut place = |word: &str| {
     ///     let said = sheet.say_word(&example::LEXICON, &example::LETTERS, &store, word, "")?;
     ///     Ok::<usize, pronouncer::Refused>(said.place())
@@ -192,11 +228,11 @@ impl<'s> Word<'s> {
     /// that is none, which no sound sheet has, is read as the letters, so that the word is checked.)
     ///
     /// ```
-    /// use pronouncer::{example, Sheet, Source, Store, WordSource};
+    /// use pronouncer::{example, Sheet, SheetVersion, Source, Store, WordSource};
     ///
     /// let (mut slots, mut items) = ([0; 512], [0; 64 * 64]);
     /// let store = Store::new_store(&mut slots)?;
-    /// let mut sheet = Sheet::new_sheet(&mut items)?;
+    /// let mut sheet = Sheet::new_sheet(&mut items, SheetVersion::V2)?;
     /// for word in ["lead", "to", "gobo"] {
     ///     sheet.say_word(&example::LEXICON, &example::LETTERS, &store, word, "")?;
     /// }
@@ -265,7 +301,8 @@ pub struct Syllable<'s> {
 }
 
 impl<'s> Syllable<'s> {
-    /// Its stress. (A byte that is none, which no sound sheet has, is read as unstressed.)
+    /// Its stress; on a sheet of version 1 never [`Secondary`](Stress::Secondary). (A byte that is none, which no
+    /// sound sheet has, is read as unstressed.)
     pub fn stress(&self) -> Stress {
         Stress::of_digit(self.items.byte(self.at, STRESS)).unwrap_or(Stress::Unstressed)
     }

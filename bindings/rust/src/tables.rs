@@ -25,12 +25,12 @@ const NEEDED: usize = 6;
 /// Nothing is looked at here but that the files can be read: their bytes go to the calls as they are.
 ///
 /// ```
-/// use pronouncer::{Sheet, Store, Tables};
+/// use pronouncer::{Sheet, SheetVersion, Store, Tables};
 ///
 /// let tables = Tables::read("../../tables/english/sections")?;
 /// let (mut slots, mut items, mut out) = ([0; 512], [0; 64 * 64], [0; 80]);
 /// let store = Store::new_store(&mut slots)?;
-/// let mut sheet = Sheet::new_sheet(&mut items)?;
+/// let mut sheet = Sheet::new_sheet(&mut items, SheetVersion::V2)?;
 /// sheet.say_word(&tables.lexicon(), &tables.letters(), &store, "gobo", "")?;
 /// assert_eq!(sheet.phone_string(&mut out)?, "g ow b ow");
 /// # Ok::<(), Box<dyn std::error::Error>>(())

@@ -1,7 +1,10 @@
 use core::fmt;
 
 use crate::foreign::{self, Answer};
+use crate::items::{Items, VERSION};
+use crate::phones::Stress;
 use crate::refusal::{Refusal, Refused};
+use crate::version::SheetVersion;
 use crate::{ITEM_BYTES, LARGEST_BYTES, RECORD_BYTES, SLOT_BYTES};
 
 /// Which of its causes a refusal by [`Unsound`](Refusal::Unsound) has: the first that applies.
@@ -25,7 +28,14 @@ pub enum Unsound {
     StoreBytes,
     /// The sheet has so many bytes, which are not 64 to 65,536.
     SheetLength(usize),
-    /// The sheet's length is right and its bytes are not: they are not what the calls wrote.
+    /// The sheet's length is right and its version is 0: it was made by an earlier library, which knew no versions,
+    /// or was never begun.
+    SheetUnversioned,
+    /// The sheet has another version that this library does not know: it was made by a later one, or is no sheet.
+    SheetVersion(u8),
+    /// A syllable has the stress "2", which the sheet's version, this one, has not.
+    SheetStress(SheetVersion),
+    /// The sheet's length and version are right and its bytes are not: they are not what the calls wrote.
     SheetBytes,
     /// The spare is not as long as the store.
     SpareLength {
@@ -47,6 +57,11 @@ impl Unsound {
             Unsound::StoreLength(_) => "lend 512 to 65,536, a multiple of 512",
             Unsound::StoreBytes => "begin it with new_store, and let only calls write it",
             Unsound::SheetLength(_) => "lend 64 to 65,536",
+            Unsound::SheetUnversioned => "begin a new sheet with new_sheet",
+            Unsound::SheetVersion(_) => "begin a new sheet, or use the library that made it",
+            Unsound::SheetStress(_) => {
+                "begin a new sheet of version 2, and let only calls write it"
+            }
             Unsound::SheetBytes => "begin it with new_sheet, and let only calls write it",
             Unsound::SpareLength { .. } => "lend a spare as long as the store",
             Unsound::SpareBytes => "preview the text again, and let only calls write the spare",
@@ -64,6 +79,16 @@ impl fmt::Display for Unsound {
                 f.write_str("the store was never begun, or somebody else wrote into it")
             }
             Unsound::SheetLength(bytes) => write!(f, "the sheet has {bytes} bytes"),
+            Unsound::SheetUnversioned => {
+                f.write_str("the sheet was made by an earlier library, or was never begun")
+            }
+            Unsound::SheetVersion(version) => write!(
+                f,
+                "the sheet has the unknown version {version}: it was made by a later library, or is no sheet"
+            ),
+            Unsound::SheetStress(version) => {
+                write!(f, "a syllable has the stress 2, which version {version} of a sheet has not")
+            }
             Unsound::SheetBytes => {
                 f.write_str("the sheet was never begun, or somebody else wrote into it")
             }
@@ -118,7 +143,22 @@ pub fn in_sheet(bytes: &[u8]) -> Option<Unsound> {
     if !(ITEM_BYTES..=LARGEST_BYTES).contains(&length) {
         return Some(Unsound::SheetLength(length));
     }
-    is_refused(foreign::phone_string(bytes, &mut [])).then_some(Unsound::SheetBytes)
+    is_refused(foreign::phone_string(bytes, &mut [])).then(|| in_items(bytes))
+}
+
+/// Why bytes as many as a sheet has are no sound one.
+fn in_items(bytes: &[u8]) -> Unsound {
+    let number = bytes[VERSION];
+    let Ok(version) = SheetVersion::try_from(u32::from(number)) else {
+        return match number {
+            0 => Unsound::SheetUnversioned,
+            _ => Unsound::SheetVersion(number),
+        };
+    };
+    if !version.has_stress(Stress::Secondary) && Items::of(bytes).have_stress(b'2') {
+        return Unsound::SheetStress(version);
+    }
+    Unsound::SheetBytes
 }
 
 /// Why a store is refused, or its spare, which may hold anything.

@@ -3,7 +3,7 @@
 
 mod sections;
 
-use pronouncer::{example, PhoneList, Refusal, Sheet, Store};
+use pronouncer::{example, PhoneList, Refusal, Sheet, SheetVersion, Store};
 use sections::{cells, reading};
 
 /// A store, its spare and a sheet that live through a list of calls.
@@ -24,7 +24,7 @@ impl Show {
     }
 
     fn clear(&mut self) {
-        Sheet::new_sheet(&mut self.items).expect("a sheet");
+        Sheet::new_sheet(&mut self.items, SheetVersion::V2).expect("a sheet");
     }
 
     fn add(&mut self, word: &str, tag: &str, phones: &[&str]) -> Result<(), Refusal> {

@@ -3,8 +3,8 @@
 
 mod sections;
 
-use pronouncer::{example, PhoneList, Refusal, Refused, Sheet, Store, Unsound};
-use sections::NO_WORDS;
+use pronouncer::{example, PhoneList, Refusal, Refused, Sheet, SheetVersion, Store, Unsound};
+use sections::{NO_WORDS, VERSIONS};
 
 /// Sees that a call was refused by 2 with this cause.
 fn caused<T: std::fmt::Debug>(told: Result<T, Refused>, cause: Unsound) {
@@ -16,6 +16,12 @@ fn caused<T: std::fmt::Debug>(told: Result<T, Refused>, cause: Unsound) {
 fn a_store(slots: usize) -> Vec<u8> {
     let mut bytes = vec![7; 512 * slots];
     Store::new_store(&mut bytes).expect("a store");
+    bytes
+}
+
+fn a_sheet(items: usize, version: SheetVersion) -> Vec<u8> {
+    let mut bytes = vec![7; 64 * items];
+    Sheet::new_sheet(&mut bytes, version).expect("a sheet");
     bytes
 }
 
@@ -34,7 +40,7 @@ fn of_lengths() {
     }
     for length in [0, 63, 65_537] {
         let (mut bytes, cause) = (vec![0; length], Unsound::SheetLength(length));
-        caused(Sheet::new_sheet(&mut bytes), cause);
+        caused(Sheet::new_sheet(&mut bytes, SheetVersion::V2), cause);
         caused(Sheet::over(&mut bytes).phone_string(&mut []), cause);
     }
 }
@@ -53,10 +59,62 @@ fn of_bytes() {
         caused(store.preview_entries(&NO_WORDS, &mut [], "a : k"), cause);
         caused(store.accept_entries(&[]), cause);
     }
-    let mut items = vec![0; 128];
-    items[8] = 1;
-    let sheet = Sheet::over(&mut items);
-    caused(sheet.phone_string(&mut []), Unsound::SheetBytes);
+    for version in VERSIONS {
+        let mut items = a_sheet(2, version);
+        items[8] = 1;
+        caused(Sheet::over(&mut items).phone_string(&mut []), Unsound::SheetBytes);
+    }
+}
+
+#[test]
+fn of_versions() {
+    for number in (0..=255).filter(|number| !matches!(number, 1 | 2)) {
+        let cause = match number {
+            0 => Unsound::SheetUnversioned,
+            _ => Unsound::SheetVersion(number),
+        };
+        let (mut items, mut slots) = (a_sheet(10, SheetVersion::V2), a_store(1));
+        assert_eq!(said(&mut items, &mut slots), Ok(()));
+        items[1] = number;
+        caused(Sheet::over(&mut items).phone_string(&mut []), cause);
+        caused(said(&mut items, &mut slots), cause);
+        // As of a sheet without words, and of bytes that are no sheet.
+        caused(Sheet::over(&mut items[..64]).phone_string(&mut []), cause);
+        caused(said(&mut [number; 640], &mut slots), cause);
+    }
+}
+
+#[test]
+fn of_stresses() {
+    // Cat is a word, one syllable, item 2, and its phones.
+    let stressed = |version, item: usize, stress: u8| {
+        let (mut items, mut slots) = (a_sheet(11, version), a_store(1));
+        assert_eq!(said(&mut items, &mut slots), Ok(()));
+        items[item * 64 + 1] = stress;
+        said(&mut items, &mut slots)
+    };
+    caused(stressed(SheetVersion::V1, 2, b'2'), Unsound::SheetStress(SheetVersion::V1));
+    assert_eq!(stressed(SheetVersion::V2, 2, b'2'), Ok(()));
+    for version in VERSIONS {
+        assert_eq!(stressed(version, 2, b'0'), Ok(()));
+        for stress in [0, 1, 2, b'/', b'3', 255] {
+            caused(stressed(version, 2, stress), Unsound::SheetBytes);
+        }
+        // No other item has a stress.
+        for item in [1, 3, 4, 5] {
+            caused(stressed(version, item, b'2'), Unsound::SheetBytes);
+        }
+    }
+}
+
+#[test]
+fn none_of_stresses_past_the_used_items() {
+    let (mut items, mut slots) = (a_sheet(10, SheetVersion::V1), a_store(1));
+    items[9 * 64..9 * 64 + 2].copy_from_slice(b"\x022");
+    assert_eq!(said(&mut items, &mut slots), Ok(()));
+    // Not sound for another reason.
+    items[10] = 0;
+    caused(said(&mut items, &mut slots), Unsound::SheetBytes);
 }
 
 /// Ordinary polish in slot 1 and exact Polish in slot 2; one slot is not used.
@@ -160,7 +218,7 @@ fn said(items: &mut [u8], slots: &mut [u8]) -> Result<(), Refused> {
 
 #[test]
 fn of_a_word_the_store_before_the_sheet() {
-    let (mut slots, mut items) = (a_store(1), vec![0; 640]);
+    let (mut slots, mut items) = (a_store(1), a_sheet(10, SheetVersion::V1));
     assert_eq!(said(&mut items, &mut slots), Ok(()));
     assert_eq!(said(&mut items, &mut slots[..511]), {
         let mut refused = Refused::from(Refusal::Unsound);
@@ -173,6 +231,8 @@ fn of_a_word_the_store_before_the_sheet() {
     slots[0] = 1;
     caused(said(&mut items, &mut slots), Unsound::StoreBytes);
     caused(said(&mut items[..60], &mut slots), Unsound::StoreBytes);
+    items[1] = 0;
+    caused(said(&mut items, &mut slots), Unsound::StoreBytes);
 }
 
 #[test]
@@ -190,6 +250,21 @@ fn its_message() {
         (
             Unsound::SheetLength(63),
             "the sheet has 63 bytes (refusal 2); lend 64 to 65,536",
+        ),
+        (
+            Unsound::SheetUnversioned,
+            "the sheet was made by an earlier library, or was never begun (refusal 2); \
+             begin a new sheet with new_sheet",
+        ),
+        (
+            Unsound::SheetVersion(7),
+            "the sheet has the unknown version 7: it was made by a later library, or is no sheet (refusal 2); \
+             begin a new sheet, or use the library that made it",
+        ),
+        (
+            Unsound::SheetStress(SheetVersion::V1),
+            "a syllable has the stress 2, which version 1 of a sheet has not (refusal 2); \
+             begin a new sheet of version 2, and let only calls write it",
         ),
         (
             Unsound::SheetBytes,

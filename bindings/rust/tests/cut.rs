@@ -3,7 +3,7 @@
 
 use pronouncer::{
     example, read_settings, write_setting, Letters, Lexicon, Refusal, Refused, Sayable, Setting,
-    Sheet, Store,
+    Sheet, SheetVersion, Store,
 };
 
 /// The first bytes of a text in an allocation of just that length.
@@ -102,7 +102,7 @@ fn sheet_and_store() {
     let mut store = Store::new_store(&mut slots).expect("a store");
     let text = cut(b"fly n : f l ay1", 15);
     assert_eq!(store.add_entries(&example::LEXICON, &mut spare, &text), Ok(1));
-    let mut sheet = Sheet::new_sheet(&mut items).expect("a sheet");
+    let mut sheet = Sheet::new_sheet(&mut items, SheetVersion::V2).expect("a sheet");
     let (word, tag) = (cut(b"Fly", 3), cut(b"n", 1));
     sheet
         .say_word(&example::LEXICON, &example::LETTERS, &store, &word, &tag)

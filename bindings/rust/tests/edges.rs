@@ -3,8 +3,10 @@
 
 mod sections;
 
-use pronouncer::{example, PhoneList, Refusal, Sheet, Store, ITEM_BYTES, LARGEST_BYTES};
-use sections::{cells, reading, with_count, NO_WORDS};
+use pronouncer::{
+    example, PhoneList, Refusal, Sheet, SheetVersion, Store, ITEM_BYTES, LARGEST_BYTES,
+};
+use sections::{cells, reading, with_count, NO_WORDS, VERSIONS};
 
 #[test]
 fn a_store_of_127_entries() {
@@ -154,14 +156,17 @@ fn lengths_of_a_store() {
 fn lengths_of_a_sheet() {
     for length in [0, 1, 63, 65_537] {
         let mut items = vec![5; length];
-        let refused = Sheet::new_sheet(&mut items).unwrap_err();
+        let refused = Sheet::new_sheet(&mut items, SheetVersion::V2).unwrap_err();
         assert_eq!(refused.refusal, Refusal::Unsound, "{length}");
         assert!(items.iter().all(|&byte| byte == 5), "{length}");
     }
-    for length in [64, 65, 127, 65_535, 65_536] {
+    for (length, version) in
+        [64, 65, 127, 65_535, 65_536].into_iter().flat_map(|length| VERSIONS.map(|v| (length, v)))
+    {
         let mut items = vec![5; length];
-        assert!(Sheet::new_sheet(&mut items).is_ok(), "{length}");
-        assert!(items[..64].iter().all(|&byte| byte == 0));
+        assert!(Sheet::new_sheet(&mut items, version).is_ok(), "{length}");
+        let number = version.number() as u8;
+        assert_eq!(items[..64], [&[0, number][..], &[0; 62]].concat());
         assert!(items[64..].iter().all(|&byte| byte == 5));
     }
 }
@@ -184,7 +189,7 @@ fn fill(sheet: &mut Sheet<'_>, store: &Store<'_>, word: &str) -> usize {
 fn a_sheet_of_1023_items() {
     let (mut slots, mut items) = (vec![0; 512], vec![0xff; LARGEST_BYTES]);
     let store = Store::new_store(&mut slots).expect("a store");
-    let mut sheet = Sheet::new_sheet(&mut items).expect("a sheet");
+    let mut sheet = Sheet::new_sheet(&mut items, SheetVersion::V2).expect("a sheet");
     // "cat" needs 5 items, "," one.
     assert_eq!(fill(&mut sheet, &store, "cat"), 204);
     assert_eq!(fill(&mut sheet, &store, ","), 3);
@@ -206,7 +211,8 @@ fn a_sheet_of_1023_items() {
 fn a_sheet_with_a_remainder() {
     let (mut slots, mut lent) = (vec![0; 512], vec![0xee; 1 + 65_535]);
     let store = Store::new_store(&mut slots).expect("a store");
-    let mut sheet = Sheet::new_sheet(&mut lent[1..]).expect("a sheet at an odd place");
+    let mut sheet =
+        Sheet::new_sheet(&mut lent[1..], SheetVersion::V2).expect("a sheet at an odd place");
     assert_eq!(fill(&mut sheet, &store, ","), 1022);
     assert_eq!(sheet.words().count(), 1022);
     assert!(lent[1 + 1023 * ITEM_BYTES..].iter().all(|&byte| byte == 0xee));

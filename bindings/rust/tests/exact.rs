@@ -3,7 +3,9 @@
 
 mod sections;
 
-use pronouncer::{example, PhoneList, Refusal, Sheet, Source, Store, LARGEST_BYTES, SLOT_BYTES};
+use pronouncer::{
+    example, PhoneList, Refusal, Sheet, SheetVersion, Source, Store, LARGEST_BYTES, SLOT_BYTES,
+};
 use sections::{cells, found, reading, with_count, NO_WORDS};
 
 /// A word, a tag, a phone, and whether the entry is exact.
@@ -137,7 +139,7 @@ fn before_the_table_and_the_lexicon() {
 fn said_onto_a_sheet() {
     let mut bytes = a_store(3, &[ORDINARY, ("Polish", "n", "ow", true)]);
     let (store, mut items) = (Store::over(&mut bytes), [0; 32 * 64]);
-    let mut sheet = Sheet::new_sheet(&mut items).expect("a sheet");
+    let mut sheet = Sheet::new_sheet(&mut items, SheetVersion::V2).expect("a sheet");
     for (word, tag) in [("Polish", ""), ("polish", ""), ("POLISH", "n"), ("Polish", "v")] {
         sheet.say_word(&NO_WORDS, &example::LETTERS, &store, word, tag).expect("it is said");
     }

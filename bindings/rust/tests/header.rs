@@ -1,6 +1,7 @@
 //! The C header compiles alone, as C and as C++, and C programs link with the library: the example says its
-//! words, kinds that no Rust can hand over are refused, C adds exact entries, reads where words came from, and is told
-//! where letters stopped and what a preview saw. Where there is no compiler these tests say so and pass.
+//! words, kinds of settings and versions of a sheet that no Rust can hand over are refused, C adds exact entries, reads
+//! where words came from and how they are stressed, and is told where letters stopped and what a preview saw. Where there
+//! is no compiler these tests say so and pass.
 
 use std::path::{Path, PathBuf};
 use std::process::{Command, Output};
@@ -92,4 +93,9 @@ fn previews() {
 #[test]
 fn sources_of_words() {
     ends_well("sources");
+}
+
+#[test]
+fn versions_of_a_sheet() {
+    ends_well("versions");
 }

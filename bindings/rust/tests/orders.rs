@@ -2,7 +2,7 @@
 
 mod sections;
 
-use pronouncer::{example, PhoneList, Sheet, Store};
+use pronouncer::{example, PhoneList, Sheet, SheetVersion, Store};
 use sections::{cells, found};
 
 /// A word, a tag, its phones, and whether the entry is exact.
@@ -32,7 +32,7 @@ fn asked(bytes: &mut [u8]) -> Vec<String> {
     let pairs = words.iter().flat_map(|word| tags.map(|tag| (*word, tag)));
     let told = |(word, tag)| {
         let mut items = vec![0; 64 * 32];
-        let mut sheet = Sheet::new_sheet(&mut items).expect("a sheet");
+        let mut sheet = Sheet::new_sheet(&mut items, SheetVersion::V2).expect("a sheet");
         let said = sheet.say_word(&example::LEXICON, &example::LETTERS, &store, word, tag);
         let found = found(&example::LEXICON, &store, word, tag);
         format!("{word}/{tag}: {found:?}, {said:?}, {items:?}")

@@ -52,14 +52,14 @@ int main(void)
         pronouncer_add_entry(
             none, sizeof none, store, sizeof store, (const uint8_t *)"mel#o", 5, none, 0, none, 0, false)
                 .refusal != 0 ||
-        pronouncer_new_sheet(sheet, sizeof sheet).refusal != 0)
+        pronouncer_new_sheet(sheet, sizeof sheet, PRONOUNCER_SHEET_1).refusal != 0)
         return 1;
     for (i = 0; i < sizeof words / sizeof words[0]; i++)
         if (!is_answer(predict(words[i].word, out, sizeof out), 0, words[i].phones, words[i].place) ||
             !is_answer(say(words[i].word, sheet, sizeof sheet), 0, 0, words[i].said))
             return 1;
     /* Refused: an output, and a sheet, that are too short. */
-    return pronouncer_new_sheet(sheet, PRONOUNCER_ITEM_BYTES).refusal != 0 ||
+    return pronouncer_new_sheet(sheet, PRONOUNCER_ITEM_BYTES, PRONOUNCER_SHEET_1).refusal != 0 ||
            !is_answer(predict("tempo#two", out, 47), PRONOUNCER_SHORT, 0, 0) ||
            !is_answer(say("tempo#two", sheet, PRONOUNCER_ITEM_BYTES), PRONOUNCER_SHORT, 0, 0);
 }

@@ -3,7 +3,8 @@
 mod sections;
 
 use pronouncer::{
-    example, Lexicon, PhoneList, Predicted, Refusal, Refused, Sheet, Store, LIST_BYTES,
+    example, Lexicon, PhoneList, Predicted, Refusal, Refused, Sheet, SheetVersion, Store,
+    LIST_BYTES,
 };
 use sections::{cells, entries, phone_table, reading, NO_TREES, NO_WORDS};
 
@@ -66,7 +67,7 @@ fn a_refused_predict_tells_its_refusal_alone() {
 /// Where the letters of a word stopped that is said with a store, and the sheet then.
 fn said(lexicon: &Lexicon<'_>, store: &Store<'_>, word: &str, tag: &str) -> (usize, String) {
     let mut items = [7; 64 * 64];
-    let mut sheet = Sheet::new_sheet(&mut items).expect("a sheet");
+    let mut sheet = Sheet::new_sheet(&mut items, SheetVersion::V2).expect("a sheet");
     let said = sheet.say_word(lexicon, &example::LETTERS, store, word, tag).expect("it is said");
     (said.place(), reading(&sheet))
 }

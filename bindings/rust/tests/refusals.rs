@@ -4,9 +4,10 @@
 mod sections;
 
 use pronouncer::{
-    example, Letters, Lexicon, PhoneList, Refusal, Refused, Sayable, Sheet, Store, LIST_BYTES,
+    example, Letters, Lexicon, PhoneList, Refusal, Refused, Sayable, Sheet, SheetVersion, Store,
+    LIST_BYTES,
 };
-use sections::{cells, entries, phone_table, with_count, NO_TREES, NO_WORDS};
+use sections::{cells, entries, phone_table, with_count, NO_TREES, NO_WORDS, VERSIONS};
 
 /// A section that breaks every form but that of lex.data.
 const BROKEN: &[u8] = b"\xff\xff\xff";
@@ -39,7 +40,7 @@ fn new_store(slots: usize) -> Vec<u8> {
 
 fn new_sheet(items: usize) -> Vec<u8> {
     let mut bytes = vec![7; 64 * items];
-    Sheet::new_sheet(&mut bytes).expect("a sheet");
+    Sheet::new_sheet(&mut bytes, SheetVersion::V2).expect("a sheet");
     bytes
 }
 
@@ -140,7 +141,9 @@ fn is_sayable() {
 #[test]
 fn new_store_and_new_sheet() {
     stays(&mut [7; 513], Refusal::Unsound, |bytes| Store::new_store(bytes).map(drop));
-    stays(&mut [7; 63], Refusal::Unsound, |bytes| Sheet::new_sheet(bytes).map(drop));
+    for version in VERSIONS {
+        stays(&mut [7; 63], Refusal::Unsound, |bytes| Sheet::new_sheet(bytes, version).map(drop));
+    }
 }
 
 #[test]
@@ -392,4 +395,5 @@ fn each_message_says_cause_and_cure() {
         assert!(!message.contains("line 0"), "{message}");
     }
     assert!(Refusal::Range.cure().contains("no write mends them: write new settings"));
+    assert!(Refusal::Version.cure().contains("begin a sheet with version 1 or 2"));
 }

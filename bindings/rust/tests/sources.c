@@ -53,7 +53,7 @@ int main(void)
     size_t i;
 
     if (pronouncer_new_store(store, sizeof store).refusal != 0 || !is_added("mel", false) ||
-        !is_added("Iris", true) || pronouncer_new_sheet(sheet, sizeof sheet).refusal != 0)
+        !is_added("Iris", true) || pronouncer_new_sheet(sheet, sizeof sheet, PRONOUNCER_SHEET_1).refusal != 0)
         return 1;
     for (i = 0; i < sizeof words / sizeof words[0]; i++)
         if (!is_said(words[i].word))

@@ -3,8 +3,8 @@
 mod sections;
 
 use pronouncer::{
-    example, PhoneList, Refusal, Refused, Sheet, Source, Store, Unsound, WordSource, ITEM_BYTES,
-    SLOT_BYTES,
+    example, PhoneList, Refusal, Refused, Sheet, SheetVersion, Source, Store, Unsound, WordSource,
+    ITEM_BYTES, SLOT_BYTES,
 };
 use sections::{cells, reading};
 
@@ -31,7 +31,7 @@ fn sources(sheet: &Sheet<'_>) -> Vec<String> {
 fn a_word_of_each() {
     let (mut slots, mut items) = (vec![7; 4 * SLOT_BYTES], vec![7; 64 * ITEM_BYTES]);
     let mut store = Store::new_store(&mut slots).expect("a store");
-    let mut sheet = Sheet::new_sheet(&mut items).expect("a sheet");
+    let mut sheet = Sheet::new_sheet(&mut items, SheetVersion::V2).expect("a sheet");
     add(&mut store, "iris", "", false);
     add(&mut store, "Mel", "", true);
     add(&mut store, "cat", "v", false);
@@ -76,7 +76,7 @@ fn it_stands_in_words_alone() {
 fn later_entries_change_none() {
     let (mut slots, mut items) = (vec![0; 2 * SLOT_BYTES], vec![0; 64 * ITEM_BYTES]);
     let mut store = Store::new_store(&mut slots).expect("a store");
-    let mut sheet = Sheet::new_sheet(&mut items).expect("a sheet");
+    let mut sheet = Sheet::new_sheet(&mut items, SheetVersion::V2).expect("a sheet");
     assert_eq!(say(&mut sheet, &store, "gobo", ""), Ok(0));
     add(&mut store, "gobo", "", false);
     assert_eq!(sources(&sheet), ["letters"]);
@@ -92,7 +92,7 @@ fn later_entries_change_none() {
 fn four_words() -> Vec<u8> {
     let (mut slots, mut items) = (vec![0; 2 * SLOT_BYTES], vec![7; 30 * ITEM_BYTES]);
     let mut store = Store::new_store(&mut slots).expect("a store");
-    let mut sheet = Sheet::new_sheet(&mut items).expect("a sheet");
+    let mut sheet = Sheet::new_sheet(&mut items, SheetVersion::V2).expect("a sheet");
     add(&mut store, "iris", "", false);
     for word in ["iris", "to", "cat", "go"] {
         say(&mut sheet, &store, word, "").expect("it is said");

@@ -1,6 +1,6 @@
 //! A folder of sections, read whole.
 
-use pronouncer::{read_section, Refusal, Sheet, Store, Tables, SECTION_NAMES};
+use pronouncer::{read_section, Refusal, Sheet, SheetVersion, Store, Tables, SECTION_NAMES};
 use std::error::Error;
 use std::fs;
 use std::io;
@@ -94,7 +94,7 @@ fn the_english_sections_say_words() -> Result<(), Box<dyn Error>> {
     assert!(tables.sayable().is_sayable("gobo")?);
     let (mut slots, mut items, mut out) = ([0; 512], [0; 64 * 64], [0; 80]);
     let store = Store::new_store(&mut slots)?;
-    let mut sheet = Sheet::new_sheet(&mut items)?;
+    let mut sheet = Sheet::new_sheet(&mut items, SheetVersion::V2)?;
     for word in ["house", "lead"] {
         sheet.say_word(&tables.lexicon(), &tables.letters(), &store, word, "v")?;
     }

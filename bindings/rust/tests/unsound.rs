@@ -3,7 +3,8 @@
 mod sections;
 
 use pronouncer::{
-    example, ListedPhones, PhoneList, Phones, Refusal, Sheet, Store, Stress, Syllables, Words,
+    example, ListedPhones, PhoneList, Phones, Refusal, Sheet, SheetVersion, Store, Stress,
+    Syllables, Words,
 };
 use sections::reading;
 
@@ -24,7 +25,7 @@ fn met(bytes: &mut [u8]) -> usize {
 fn two_words() -> (Vec<u8>, usize) {
     let (mut slots, mut items) = (vec![0; 512], vec![0; 20 * 64]);
     let store = Store::new_store(&mut slots).expect("a store");
-    let mut sheet = Sheet::new_sheet(&mut items).expect("a sheet");
+    let mut sheet = Sheet::new_sheet(&mut items, SheetVersion::V2).expect("a sheet");
     for word in ["lead", "gobo"] {
         sheet
             .say_word(&example::LEXICON, &example::LETTERS, &store, word, "v")
@@ -58,9 +59,13 @@ fn iterators_have_names_and_tell_what_is_to_come() {
 #[test]
 fn a_stress_that_is_none() {
     let (mut items, _) = two_words();
-    for (byte, stress) in
-        [(b'0', Stress::Unstressed), (b'1', Stress::Stressed), (b'2', Stress::Unstressed)]
-    {
+    for (byte, stress) in [
+        (b'0', Stress::Unstressed),
+        (b'1', Stress::Stressed),
+        (b'2', Stress::Secondary),
+        (b'3', Stress::Unstressed),
+        (0, Stress::Unstressed),
+    ] {
         items[2 * 64 + 1] = byte;
         let sheet = Sheet::over(&mut items);
         let first = sheet.words().flat_map(|word| word.syllables()).next();

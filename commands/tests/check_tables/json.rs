@@ -10,7 +10,8 @@ fn a_folder_is_an_object() {
     let expected = "[{\"folder\": \"small\", \"fit\": true, \"reasons\": [], \
         \"summary\": {\"entries\": 2, \"words\": 2, \"homographs\": 0, \"nodes\": 2, \
         \"deepest_tree\": {\"nodes\": 2, \"letter\": \"a\"}, \
-        \"lex_phones_never_used\": [], \"lts_phones_never_used\": [\"t\"]}, \
+        \"lex_phones_never_used\": [], \"lts_phones_never_used\": [\"t\"], \
+        \"sheet_versions\": {\"suits\": [1, 2], \"entries\": 0, \"leaves\": 0}}, \
         \"faults\": [], \"warnings\": []}]\n";
     assert_eq!(ran.out, expected);
     assert_eq!((ran.err.as_str(), ran.status), ("", Some(0)));
@@ -24,7 +25,7 @@ fn faults_and_warnings_have_their_places() {
     let ran = scratch.run(["broken", "--json"]);
     let expected = "[{\"folder\": \"broken\", \"fit\": false, \"reasons\": [\"a letter's tree is damaged\"], \
         \"summary\": {\"entries\": 2, \"words\": 2, \"homographs\": 0, \"nodes\": 2, \"deepest_tree\": null, \
-        \"lex_phones_never_used\": [], \"lts_phones_never_used\": null}, \
+        \"lex_phones_never_used\": [], \"lts_phones_never_used\": null, \"sheet_versions\": null}, \
         \"faults\": [{\"kind\": \"letters\", \"section\": \"lts.model\", \"byte\": 4, \"node\": 0, \"letter\": \"a\", \
         \"message\": \"in the tree of \\\"a\\\" node 0 leads to node 2: expected one of the 2 nodes that lts.model has\"}], \
         \"warnings\": [{\"section\": \"lex.phones\", \"byte\": 5, \"phone\": \"ag\", \

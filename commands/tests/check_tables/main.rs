@@ -10,4 +10,5 @@ mod places;
 #[path = "../running/mod.rs"]
 mod running;
 mod verdicts;
+mod versions;
 mod warnings;

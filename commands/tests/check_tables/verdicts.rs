@@ -27,6 +27,7 @@ const COUNTED: &str = "  2 entries, 2 words, 0 homographs, 2 nodes\n";
 const DEEPEST: &str = "  deepest tree: 2 nodes, of \"a\"\n";
 const LEX_UNUSED: &str = "  phones of lex.phones never used: none\n";
 const LTS_UNUSED: &str = "  phones of lts.phones never used: t\n";
+const SHEETS: &str = "  suits sheets of versions 1 and 2\n";
 
 const FORM: &str = "a section breaks its form";
 const DAMAGED: &str = "the lexicon has a damaged entry, or one out of order";
@@ -85,9 +86,10 @@ fn english_is_fit() {
     assert_eq!(first, format!("{}: fit for the show", folder.display()));
     let expected = "  509 entries, 462 words, 46 homographs, 3321 nodes
   deepest tree: 59 nodes, of \"a\"
-  phones of lex.phones never used: ax1 axr0 axr1 el0 el1 em0 em1 en0 en1 oy0 uh0
+  phones of lex.phones never used: 31 vowels with their stress
   phones of lts.phones never used: none
-lex.phones: its form holds, 63 phones
+  suits sheets of versions 1 and 2
+lex.phones: its form holds, 83 phones
 lex.index: its form holds, 509 entries
 lex.data: its form holds, 6507 bytes
 lexicon: every entry is whole, and the words are in order
@@ -114,6 +116,7 @@ fn a_small_folder_is_fit() {
         DEEPEST,
         LEX_UNUSED,
         LTS_UNUSED,
+        SHEETS,
         LEXICON,
         LETTERS,
         MACHINES,
@@ -265,6 +268,7 @@ fn a_node_outside_is_told() {
 fn a_machine_without_its_front_breaks_its_form() {
     let lines = "aswd.p: its form holds, 0 cells\n\
                  aswd.s, byte 3: breaks its form: expected 4 bytes in front of the cells\n";
-    let parts = [COUNTED, DEEPEST, LEX_UNUSED, LTS_UNUSED, LEXICON, LETTERS, lines, NO_CHECKSUMS];
+    let summary = [COUNTED, DEEPEST, LEX_UNUSED, LTS_UNUSED, SHEETS].concat();
+    let parts = [&summary, LEXICON, LETTERS, lines, NO_CHECKSUMS];
     check_broken("aswd.s", &[0; 3], FORM, &parts);
 }

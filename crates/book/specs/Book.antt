@@ -1,4 +1,4 @@
--- 01, Store and sheet, and 02, S-2: the plain book beside a list of calls, fed only the calls and whether each was refused.
+-- 01, Store and sheet, and 02, S-2 and S-9: the plain book beside a list of calls, fed only the calls and whether each was refused.
 -- Assumes nothing.
 use Prim.Native.Nat.{ℕ}
 use mathlib.Core.Bool.{Bool}
@@ -9,18 +9,23 @@ use Rattle.store_spec.specs.Adding.{adding}
 use Rattle.lexicon_spec.specs.Adding.{newEntry}
 use Rattle.lines.specs.Lines.{lines}
 use Rattle.addtext_spec.specs.Filling.{lineEntries, addingAll}
-use Rattle.utterance_spec.specs.Tree.{Word}
+use Rattle.utterance_spec.specs.Tree.{Word, Page}
 use Rattle.pipeline_spec.specs.Pronounced.{Sections, Spoken, barred, phones, pronounced, said}
 use Rattle.book.specs.Calls.{Call, makeSheet, addsEntry, addsText, previewsText, acceptsText, saysWord, Made, State, step, isRefused}
 
--- entries and words, at first none; and the entries of the latest accepted first step, none if there was none
+-- entries and words, at first none; the sheet's version (02, S-9); and the entries of the latest accepted first step, none if there was none
 pub record Book : Type 0 where
   pub entries : List Entry
+  pub version : ℕ
   pub words : List Word
   pub previewed : List Entry
 
-unfoldable pub empty : Book
-empty = record { entries = []; words = []; previewed = [] }
+unfoldable pub empty : ℕ → Book
+empty version = record { entries = []; version = version; words = []; previewed = [] }
+
+-- what a sheet with these words reads as
+abbrev pub pageOf : Book → Page
+pageOf k = record { version = k .version; state = 0; words = k .words }
 
 -- a call, and whether it was refused
 pub record Heard : Type 0 where
@@ -29,20 +34,26 @@ pub record Heard : Type 0 where
 
 module _ (c : Sections) where
   -- the word that was said; one that is barred is refused, and puts nothing
-  abbrev pub onSpoken : List ℕ → Spoken → List Word
-  onSpoken word (barred n) = []
-  onSpoken word (phones source place ps) = said word source ps ∷ []
+  abbrev pub onSpoken : ℕ → List ℕ → Spoken → List Word
+  onSpoken version word (barred n) = []
+  onSpoken version word (phones source place ps) = said version word source ps ∷ []
 
   -- what an accepted call changes
   unfoldable pub accepts : Call → Book → Book
-  accepts makeSheet k = record { entries = k .entries; words = []; previewed = k .previewed }
+  accepts (makeSheet version) k = record { entries = k .entries; version = version; words = []; previewed = k .previewed }
   accepts (addsEntry word tag cells exact) k =
-      record { entries = adding (newEntry word tag cells exact) (k .entries); words = k .words; previewed = k .previewed }
-  accepts (addsText text) k = record { entries = addingAll (lineEntries (lines text)) (k .entries); words = k .words; previewed = k .previewed }
-  accepts (previewsText text) k = record { entries = k .entries; words = k .words; previewed = lineEntries (lines text) }
-  accepts acceptsText k = record { entries = addingAll (k .previewed) (k .entries); words = k .words; previewed = k .previewed }
+      record { entries = adding (newEntry word tag cells exact) (k .entries); version = k .version; words = k .words; previewed = k .previewed }
+  accepts (addsText text) k =
+      record { entries = addingAll (lineEntries (lines text)) (k .entries); version = k .version; words = k .words; previewed = k .previewed }
+  accepts (previewsText text) k = record { entries = k .entries; version = k .version; words = k .words; previewed = lineEntries (lines text) }
+  accepts acceptsText k = record { entries = addingAll (k .previewed) (k .entries); version = k .version; words = k .words; previewed = k .previewed }
   accepts (saysWord word tag) k =
-      record { entries = k .entries; words = k .words ++ onSpoken word (pronounced c (k .entries) word tag); previewed = k .previewed }
+      record {
+        entries = k .entries;
+        version = k .version;
+        words = k .words ++ onSpoken (k .version) word (pronounced c (k .entries) word tag);
+        previewed = k .previewed;
+      }
 
   -- a refused call changes nothing
   unfoldable pub keeps : List Heard → Book → Book

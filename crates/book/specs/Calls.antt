@@ -1,4 +1,4 @@
--- 01, Store and sheet, and 02, S-2: a list of calls. Each gets what the one before left in store and sheet, and the same sections.
+-- 01, Store and sheet, and 02, S-2 and S-9: a list of calls. Each gets what the one before left in store and sheet, and the same sections.
 -- The list carries a spare from call to call too, at first equal to the store: the two steps find that one, add text that or any other.
 -- Assumes nothing.
 use Prim.Native.Nat.{ℕ}
@@ -16,9 +16,9 @@ use Rattle.answers.specs.declared.Answer.{Answer}
 use Rattle.pipeline_spec.specs.Pronounced.{Sections}
 use Rattle.say_word.specs.SayWord.{sayWord, sheetAfter}
 
--- a call, with its arguments other than store, sheet and spare
+-- a call, with its arguments other than store, sheet and spare; new sheet has its version (02, S-9)
 pub data Call : Type 0 where
-  makeSheet : Call
+  makeSheet : ℕ → Call
   addsEntry : List ℕ → List ℕ → List ℕ → Bool → Call
   addsText : List ℕ → Call
   previewsText : List ℕ → Call
@@ -47,7 +47,7 @@ carried (some other) own filled = own
 module _ (c : Sections) where
   -- what a call answers, and what it leaves: the definitions that the calls' contracts cite
   unfoldable pub answer : Call → Option (List ℕ) → State → Answer
-  answer makeSheet other s = newSheet (s .sheet)
+  answer (makeSheet version) other s = newSheet (s .sheet) version
   answer (addsEntry word tag phones exact) other s = addEntry (c .lexPhones) (s .store) word tag phones exact
   answer (addsText text) other s = addEntries (c .lexPhones) (s .store) (found other (s .spare)) text
   answer (previewsText text) other s = previewEntries (c .lexPhones) (s .store) (s .spare) text
@@ -55,7 +55,7 @@ module _ (c : Sections) where
   answer (saysWord word tag) other s = sayWord c (s .store) (s .sheet) word tag
 
   unfoldable pub step : Call → Option (List ℕ) → State → State
-  step makeSheet other s = record { store = s .store; sheet = newBytes (s .sheet); spare = s .spare }
+  step (makeSheet version) other s = record { store = s .store; sheet = newBytes (s .sheet) version; spare = s .spare }
   step (addsEntry word tag phones exact) other s =
       record { store = storeAfterEntry (c .lexPhones) (s .store) word tag phones exact; sheet = s .sheet; spare = s .spare }
   step (addsText text) other s =
@@ -76,6 +76,6 @@ module _ (c : Sections) where
   leaves [] s = s
   leaves (m ∷ ms) s = leaves ms (step (m .call) (m .other) s)
 
--- store and sheet as new store and new sheet leave them, their other bytes arbitrary, and a spare equal to the store
-unfoldable pub fresh : List ℕ → List ℕ → State
-fresh store sheet = record { store = newStoreBytes store; sheet = newBytes sheet; spare = newStoreBytes store }
+-- store and sheet as new store and new sheet of this version leave them, their other bytes arbitrary, and a spare equal to the store
+unfoldable pub fresh : List ℕ → List ℕ → ℕ → State
+fresh store sheet version = record { store = newStoreBytes store; sheet = newBytes sheet version; spare = newStoreBytes store }

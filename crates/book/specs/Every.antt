@@ -1,5 +1,5 @@
--- 01, demand 3: one claim about every list of calls. The store that a list leaves holds the entries, and the sheet tells the words,
--- of the book of what was accepted.
+-- 01, demand 3, and 02, S-9: one claim about every list of calls. The store that a list leaves holds the entries, and the sheet tells the words
+-- and the version, of the book of what was accepted.
 -- Each call keeps store and sheet sound and in step with the book, and the spare with what it may be accepted as; a list of calls is its calls in turn.
 -- Assumes nothing.
 use Prim.Native.Nat.{ℕ, _+_, _≤_, _<_}
@@ -32,16 +32,16 @@ use Rattle.preview_entries.specs.PreviewEntries.{spareAfter as sparePreviewed}
 use Rattle.preview_entries.specs.Ends.{Ends, whole, stopped, unread, ends}
 use Rattle.accept_entries.specs.AcceptEntries.{acceptEntries, storeAfter as storeAccepted}
 use Rattle.accept_entries.specs.Accepted.{accept-law}
-use Rattle.utterance_spec.specs.Tree.{Word}
-use Rattle.utterance_spec.specs.Sheet.{reading, isSheetLength}
-use Rattle.new_sheet.specs.NewSheet.{newSheet}
+use Rattle.versions.specs.Versions.{isSheetVersion}
+use Rattle.utterance_spec.specs.Tree.{Word, Page, putLast}
+use Rattle.utterance_spec.specs.Sheet.{version, page, isSheetLength}
 use Rattle.utterance_spec.specs.Sound.{Sound}
-use Rattle.new_sheet.specs.Fresh.{new-sound, new-reads}
+use Rattle.new_sheet.specs.Fresh.{new-sound, new-reads, new-taken, new-unknown}
 use Rattle.pipeline_spec.specs.Pronounced.{Sections, phones, pronounced, said}
 use Rattle.say_word.specs.SayWord.{sayWord, sheetAfter}
 use Rattle.say_word.specs.Accepted.{say-law}
 use Rattle.book.specs.Calls.{Call, makeSheet, addsEntry, addsText, previewsText, acceptsText, saysWord, Made, State, answer, step, isRefused, leaves, fresh}
-use Rattle.book.specs.Book.{Book, empty, accepts, keeps, hears}
+use Rattle.book.specs.Book.{Book, empty, pageOf, accepts, keeps, hears}
 use Rattle.book.specs.Laws.Counts.{Stand, begin, raised, shown, halted}
 use Rattle.book.specs.WellCut.{WellCut, said-cut}
 use Rattle.book.specs.Claim.{Each, Holds, Tells, holds, tells}
@@ -57,8 +57,12 @@ pub record Agrees (s : State) (k : Book) : Type 0 where
   pub stand : Stand (count (s .store)) (count (s .spare)) (entries (s .spare) ≡ addingAll (k .previewed) (k .entries))
   pub entries : entries (s .store) ≡ k .entries
   pub sheet : Sound (s .sheet)
-  pub words : reading (s .sheet) ≡ k .words
+  pub page : page (s .sheet) ≡ pageOf k
   pub cut : Each WellCut (k .words)
+
+same-version : (b : List ℕ) (k : Book) → page b ≡ pageOf k → version b ≡ k .version
+unfolding page
+same-version b k e = ap (λ (p : Page). p .version) e
 
 -- a count that may rise, and is at most the largest
 below : (n : ℕ) → n ≤ largest → eqb n largest ≡ false → (n ≢ largest) × (n < largest)
@@ -69,19 +73,21 @@ module _ (c : Sections) (s : State) (k : Book) (a : Agrees s k) where
   abbrev After : Call → Option (List ℕ) → Type 0
   After call other = Agrees (step c call other s) (if isRefused c call other s then k else accepts c call k)
 
-  makes : (other : Option (List ℕ)) → After makeSheet other
-  unfolding answer step accepts newSheet
-  makes other =
+  makes : (version : ℕ) (other : Option (List ℕ)) → After (makeSheet version) other
+  unfolding answer step accepts
+  makes version other =
       let l = a .sheet .size in
-      rw l (record {
+      cases (isSheetVersion version)
+      (λ v. rw (new-taken (s .sheet) version l v) (record {
         store = a .store;
         alike = a .alike;
         stand = a .stand;
         entries = a .entries;
-        sheet = new-sound (s .sheet) l;
-        words = new-reads (s .sheet) l;
+        sheet = new-sound (s .sheet) version l v;
+        page = new-reads (s .sheet) version l v;
         cut = tt;
-      })
+      }))
+      (λ v. let e = new-unknown (s .sheet) version l v in rw (e .0, e .1) a)
 
   adds : (word tag cells : List ℕ) (exact : Bool) (other : Option (List ℕ)) → After (addsEntry word tag cells exact) other
   unfolding answer step accepts
@@ -96,7 +102,7 @@ module _ (c : Sections) (s : State) (k : Book) (a : Agrees s k) where
         stand = rw (h .count (n .1)) (raised (count (s .store)) (count (s .spare)) (a .stand) (n .0));
         entries = h .entries ∙ ap (λ (es : List Entry). adding (newEntry word tag cells exact) es) (a .entries);
         sheet = a .sheet;
-        words = a .words;
+        page = a .page;
         cut = a .cut;
       }))
       (λ e. let z : storeAfter (c .lexPhones) (s .store) word tag cells exact ≡ s .store = unfold storeAfter in rw e in
@@ -121,7 +127,7 @@ module _ (c : Sections) (s : State) (k : Book) (a : Agrees s k) where
           stand = rw (counted-count full more (g .sound) (omega (arith, n .1))) (raised (count (s .store)) (count spare) t (n .0));
           entries = text-entries;
           sheet = a .sheet;
-          words = a .words;
+          page = a .page;
           cut = a .cut;
         }
 
@@ -134,7 +140,7 @@ module _ (c : Sections) (s : State) (k : Book) (a : Agrees s k) where
         stand = rw e (halted (count (s .store)) (count (s .spare)) (a .stand));
         entries = a .entries;
         sheet = a .sheet;
-        words = a .words;
+        page = a .page;
         cut = a .cut;
       }
 
@@ -173,7 +179,7 @@ module _ (c : Sections) (s : State) (k : Book) (a : Agrees s k) where
             stand = rw (g .count) (shown (count (s .store)) (count (s .spare)) (a .stand) w);
             entries = a .entries;
             sheet = a .sheet;
-            words = a .words;
+            page = a .page;
             cut = a .cut;
           })
       go (stopped e p) = rw e (halts (sparePreviewed (c .lexPhones) (s .store) (s .spare) text) (p .length) (p .count))
@@ -196,7 +202,7 @@ module _ (c : Sections) (s : State) (k : Book) (a : Agrees s k) where
         stand = rw f (raised (count (s .store)) (count (s .spare)) (a .stand) (n .0));
         entries = counted-entries (s .spare) m (t .sound) ∙ a .stand .waits q (n .0);
         sheet = a .sheet;
-        words = a .words;
+        page = a .page;
         cut = a .cut;
       }))
       (λ e. let z : storeAccepted (s .store) (s .spare) ≡ s .store = unfold storeAccepted in rw e in
@@ -207,7 +213,8 @@ module _ (c : Sections) (s : State) (k : Book) (a : Agrees s k) where
   says word tag other =
       cases (eqb (sayWord c (s .store) (s .sheet) word tag .refusal) 0)
       (λ e. let t = say-law c (s .store) (s .sheet) word tag (eqb-true (sayWord c (s .store) (s .sheet) word tag .refusal) 0 e) in
-      let w = said word (t .source) (t .phones) in
+      let v = same-version (s .sheet) k (a .page) in
+      let w = said (k .version) word (t .source) (t .phones) in
       let y : pronounced c (k .entries) word tag ≡ phones (t .source) (t .place) (t .phones) =
       ap (λ (es : List Entry). pronounced c es word tag) (sym (a .entries)) ∙ t .came in
       rw (e, y) (record {
@@ -216,14 +223,14 @@ module _ (c : Sections) (s : State) (k : Book) (a : Agrees s k) where
         stand = a .stand;
         entries = a .entries;
         sheet = t .sound;
-        words = t .reads ∙ ap (λ (ws : List Word). ws ++ (w ∷ [])) (a .words);
-        cut = each-last WellCut (k .words) w (a .cut) (said-cut word (t .source) (t .phones));
+        page = t .reads ∙ ap (λ (n : ℕ). putLast (said n word (t .source) (t .phones)) (page (s .sheet))) v ∙ ap (putLast w) (a .page);
+        cut = each-last WellCut (k .words) w (a .cut) (said-cut (k .version) word (t .source) (t .phones));
       }))
       (λ e. let z : sheetAfter c (s .store) (s .sheet) word tag ≡ s .sheet = unfold sheetAfter in rw e in
       rw (e, z) a)
 
   each-call : (call : Call) (other : Option (List ℕ)) → After call other
-  each-call makeSheet other = makes other
+  each-call (makeSheet version) other = makes version other
   each-call (addsEntry word tag cells exact) other = adds word tag cells exact other
   each-call (addsText text) other = texts text other
   each-call (previewsText text) other = previews text other
@@ -238,27 +245,29 @@ in-turn c (m ∷ ms) s k a =
     in-turn c ms (step c (m .call) (m .other) s) (if isRefused c (m .call) (m .other) s then k else accepts c (m .call) k)
     (each-call c s k a (m .call) (m .other))
 
-begins : (store sheet : List ℕ) → isStoreLength (length store) ≡ true → isSheetLength (length sheet) ≡ true → Agrees (fresh store sheet) empty
+begins : (store sheet : List ℕ) (version : ℕ) → isStoreLength (length store) ≡ true → isSheetLength (length sheet) ≡ true → isSheetVersion version ≡ true
+    → Agrees (fresh store sheet version) (empty version)
 unfolding fresh empty
-begins store sheet l h =
+begins store sheet version l h v =
     let z : newStoreBytes store ≡ freshStore store l = unfold newStoreBytes newStore in rw l in
     rw z (record {
       store = fresh-sound store l;
       alike = refl;
       stand = rw (fresh-count store l) (begin (unfold addingAll in fresh-entries store l));
       entries = fresh-entries store l;
-      sheet = new-sound sheet h;
-      words = new-reads sheet h;
+      sheet = new-sound sheet version h v;
+      page = new-reads sheet version h v;
       cut = tt;
     })
 
--- for every list of calls, every set of sections, and every store and sheet as new store and new sheet leave them, their other bytes
--- arbitrary, with a spare equal to the store
-pub every-list : (c : Sections) (store sheet : List ℕ) → isStoreLength (length store) ≡ true → isSheetLength (length sheet) ≡ true → (calls : List Made)
-    → Holds (leaves c calls (fresh store sheet) .store) (keeps c (hears c calls (fresh store sheet)) empty .entries)
-    × Tells (leaves c calls (fresh store sheet) .sheet) (keeps c (hears c calls (fresh store sheet)) empty .words)
-every-list c store sheet l h calls =
-    let a = in-turn c calls (fresh store sheet) empty (begins store sheet l h) in (
-      holds (leaves c calls (fresh store sheet) .store) (keeps c (hears c calls (fresh store sheet)) empty .entries) (a .store) (a .entries),
-      tells (leaves c calls (fresh store sheet) .sheet) (keeps c (hears c calls (fresh store sheet)) empty .words) (a .sheet) (a .words) (a .cut),
-    )
+-- for every list of calls, every set of sections, every known version, and every store and sheet as new store and new sheet leave them, their
+-- other bytes arbitrary, with a spare equal to the store
+pub every-list : (c : Sections) (store sheet : List ℕ) (version : ℕ) → isStoreLength (length store) ≡ true → isSheetLength (length sheet) ≡ true
+    → isSheetVersion version ≡ true → (calls : List Made)
+    → Holds (leaves c calls (fresh store sheet version) .store) (keeps c (hears c calls (fresh store sheet version)) (empty version) .entries)
+    × Tells (leaves c calls (fresh store sheet version) .sheet) (pageOf (keeps c (hears c calls (fresh store sheet version)) (empty version)))
+every-list c store sheet version l h v calls =
+    let s = leaves c calls (fresh store sheet version) in
+    let k = keeps c (hears c calls (fresh store sheet version)) (empty version) in
+    let a = in-turn c calls (fresh store sheet version) (empty version) (begins store sheet version l h v) in
+    (holds (s .store) (k .entries) (a .store) (a .entries), tells (s .sheet) (pageOf k) (a .sheet) (a .page) (a .cut))

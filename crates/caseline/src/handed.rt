@@ -81,6 +81,15 @@ pub fn argument(room: &[u8], given: Given, k: usize) -> &[u8] {
     read::part(room, 0, 0)
 }
 
+// Whether argument k has four bytes, and these as a number, the low one first.
+pub fn is_four_bytes(room: &[u8], given: Given, k: usize) -> bool {
+    argument(room, given, k).len() == 4
+}
+
+pub fn four_bytes(room: &[u8], given: Given, k: usize) -> u32 {
+    records::u32_at(argument(room, given, k), 0)
+}
+
 // Whether an answer tells the numbers of a token: its value, and behind colons the two numbers more, 0 where they don't stand.
 fn tells(a: Answer, told: &[u8]) -> bool {
     if a.value != read::number(read::field(told, 0, 58)) {

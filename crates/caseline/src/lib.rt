@@ -7,6 +7,8 @@ pub use handed::agrees;
 pub use handed::argument;
 pub use handed::arguments;
 pub use handed::as_told;
+pub use handed::four_bytes;
+pub use handed::is_four_bytes;
 pub use handed::is_yes;
 pub use handed::is_yes_or_no;
 pub use handed::load;

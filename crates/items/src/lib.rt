@@ -1,6 +1,6 @@
 // One item of the sheet (01, Store and sheet): 64 bytes, written whole and read.
 ghost use mathlib.Core.Path.{_≡_};
-ghost use mathlib.Core.Bool.{_&&_, _||_};
+ghost use mathlib.Core.Bool.{_&&_};
 ghost use Prim.Native.Nat.{_≤_};
 ghost use lib.Dec.{eqb, leb};
 ghost use lib.ListN.{length};
@@ -90,17 +90,6 @@ fn are_zero(item: &[u8], j: usize, k: usize) -> bool
     texts::both(records::u16_at(item, j) == 0, records::u16_at(item, k) == 0)
 }
 
-// Whether a byte is "0" or "1".
-fn is_stress(b: u8) -> bool
-    ensures { λ r. ⌜ r ≡ (eqb b 48 || eqb b 49) ⌝ }
-{
-    match b {
-        48 => true,
-        49 => true,
-        _ => false,
-    }
-}
-
 // Whether a byte names where a word came from.
 fn is_source(b: u8) -> bool
     ensures { λ r. ⌜ r ≡ isSource b ⌝ }
@@ -134,11 +123,7 @@ fn is_word_item(item: &[u8]) -> bool
 fn is_syllable_item(item: &[u8]) -> bool
     ensures { λ r. ⌜ r ≡ isSyllableItem (itemOf (now (item .entry))) ⌝ }
 {
-    let front = texts::both(
-        records::byte_at(item, 0) == 2,
-        is_stress(records::byte_at(item, 1)),
-    );
-    let bare = texts::both(front, are_zero(item, 10, 12));
+    let bare = texts::both(records::byte_at(item, 0) == 2, are_zero(item, 10, 12));
     let unmarked = texts::both(bare, is_unmarked(item));
     texts::both(unmarked, text(item).len() == 0)
 }
@@ -154,7 +139,11 @@ fn is_phone_item(item: &[u8]) -> bool
 fn is_head_item(item: &[u8]) -> bool
     ensures { λ r. ⌜ r ≡ isHeadItem (itemOf (now (item .entry))) ⌝ }
 {
-    let only = texts::both(is_front(item, 0, 0), records::u16_at(item, 2) == 0);
+    let front = texts::both(
+        records::byte_at(item, 0) == 0,
+        versions::is_sheet_version(records::byte_at(item, 1) as u32),
+    );
+    let only = texts::both(front, records::u16_at(item, 2) == 0);
     let unmarked = texts::both(only, is_unmarked(item));
     texts::both(unmarked, text(item).len() == 0)
 }

@@ -3,8 +3,7 @@
 use Prim.Native.Nat.{ℕ, _+_, _≤_}
 use native.Mathlib.Omega.{arith}
 use mathlib.Core.Path.{_≡_}
-use mathlib.Core.Logic.{_⊎_, inl, inr}
-use mathlib.Core.Bool.{true, _&&_, _||_}
+use mathlib.Core.Bool.{true, _&&_}
 use mathlib.Core.List.{List}
 use lib.Dec.{eqb, leb}
 use lib.ListN.{length, getD, take, drop, length-drop}
@@ -15,6 +14,7 @@ use Rattle.texts.specs.Lists.{every}
 use Rattle.texts.specs.Text.{is, ascii, isWord}
 use Rattle.records.specs.Fields.{u16At}
 use Rattle.records.specs.Between.{Zero, rest-zero, zero-rest, text-low, low-text, byte-zero, join-zero, u16-zero, zero-u16}
+use Rattle.versions.specs.SoundStress.{version-told, told-version}
 use Rattle.items_spec.specs.Item.{itemOf, isClean, isSource, isWordItem, isSyllableItem, isPhoneItem, isHeadItem, fits, isItem, isHead}
 use Rattle.items_spec.specs.SoundItem.{SoundSource, runtime, addenda, compiled, letterTrees, SoundWord, SoundSyllable, SoundPhone}
 use Rattle.items_spec.specs.SoundItem.{SoundItem, word, syllable, phone, SoundHead}
@@ -117,20 +117,12 @@ module _ (r : List ℕ) (size : length r ≡ 64) where
         ),
       )
 
-  stress-told : (eqb (getD r 1 0) 48 || eqb (getD r 1 0) 49) ≡ true → (getD r 1 0 ≡ 48) ⊎ (getD r 1 0 ≡ 49)
-  stress-told h = cases (eqb (getD r 1 0) 48) (λ e. inl (eqb-true (getD r 1 0) 48 e)) (λ e. inr (eqb-true (getD r 1 0) 49 (rw e at h)))
-
-  told-stress : (getD r 1 0 ≡ 48) ⊎ (getD r 1 0 ≡ 49) → (eqb (getD r 1 0) 48 || eqb (getD r 1 0) 49) ≡ true
-  told-stress (inl e) = rw e
-  told-stress (inr e) = rw e
-
   syllable-told : isClean r ≡ true → isSyllableItem (itemOf r) ≡ true → SoundSyllable r
   unfolding itemOf
   syllable-told c h =
       let f = syllable-fields (itemOf r) h in
       record {
         kind = f .kind;
-        stress = stress-told (f .stress);
         noPhoneLinks = links-told r 10 (f .prev) (f .follow);
         unnamed = f .mark;
         noSource = f .source;
@@ -143,7 +135,7 @@ module _ (r : List ℕ) (size : length r ≡ 64) where
       let k = told-links r 10 (s .noPhoneLinks) in
       let t = text-none (s .noText) in
       let m = eq-eqb (getD r 14 0) 0 (s .unnamed) in
-      (t .0, rw (eq-eqb (getD r 0 0) 2 (s .kind), told-stress (s .stress), k .0, k .1, m, eq-eqb (getD r 15 0) 0 (s .noSource), t .1))
+      (t .0, rw (eq-eqb (getD r 0 0) 2 (s .kind), k .0, k .1, m, eq-eqb (getD r 15 0) 0 (s .noSource), t .1))
 
   phone-told : isClean r ≡ true → isPhoneItem (itemOf r) ≡ true → SoundPhone r
   unfolding itemOf
@@ -206,7 +198,9 @@ module _ (r : List ℕ) (size : length r ≡ 64) where
       let a = both-true (isClean r) (isHeadItem (itemOf r)) h in
       let f = head-fields (itemOf r) (a .1) in
       record {
-        before = join-zero r 0 1 4 (byte-zero r 0 (f .kind)) (join-zero r 1 2 4 (byte-zero r 1 (f .stress)) (u16-zero r 2 (f .next)));
+        kind = f .kind;
+        version = version-told (getD r 1 0) (f .version);
+        noNext = u16-zero r 2 (f .next);
         behind = join-zero r 14 15 64 (byte-zero r 14 (f .mark)) (join-zero r 15 16 64 (byte-zero r 15 (f .source)) (no-text (a .0) (f .text)));
       }
 
@@ -216,9 +210,9 @@ module _ (r : List ℕ) (size : length r ≡ 64) where
       let t = text-none (λ i lo hi. s .behind i (omega arith) hi) in
       rw (
         t .0,
-        eq-eqb (getD r 0 0) 0 (s .before 0 (omega arith) (omega arith)),
-        eq-eqb (getD r 1 0) 0 (s .before 1 (omega arith) (omega arith)),
-        told-link r 2 (λ i lo hi. s .before i (omega arith) hi),
+        eq-eqb (getD r 0 0) 0 (s .kind),
+        told-version (getD r 1 0) (s .version),
+        told-link r 2 (s .noNext),
         eq-eqb (getD r 14 0) 0 (s .behind 14 (omega arith) (omega arith)),
         eq-eqb (getD r 15 0) 0 (s .behind 15 (omega arith) (omega arith)),
         t .1,

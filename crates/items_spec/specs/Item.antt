@@ -1,7 +1,7 @@
--- 01, Store and sheet, and 02, S-6: an item of the sheet, 64 bytes, and what an item of each kind may be.
+-- 01, Store and sheet, and 02, S-6 and S-9: an item of the sheet, 64 bytes, and what an item of each kind may be.
 -- Assumes nothing.
 use Prim.Native.Nat.{ℕ, _+_, _-_, _%_, _/_}
-use mathlib.Core.Bool.{Bool, _&&_, _||_}
+use mathlib.Core.Bool.{Bool, _&&_}
 use mathlib.Core.List.{List, _∷_, _++_}
 use lib.Dec.{eqb, leb}
 use lib.ListN.{length, getD, take, drop, replicate}
@@ -9,6 +9,7 @@ use Rattle.texts.specs.Choice.{if_then_else_}
 use Rattle.texts.specs.Lists.{every}
 use Rattle.texts.specs.Text.{ascii, is, isWord}
 use Rattle.records.specs.Fields.{u16At}
+use Rattle.versions.specs.Versions.{isSheetVersion}
 
 -- an item: its kind (1 word, 2 syllable, 3 phone), stress, next sibling, first and last child, parent, the phones before and behind it,
 -- a byte that is 0 as yet, a word's source, and its text
@@ -66,11 +67,10 @@ unfoldable pub isWordItem : Item → Bool
 isWordItem i =
     eqb (i .kind) 1 && eqb (i .stress) 0 && eqb (i .prev) 0 && eqb (i .follow) 0 && eqb (i .mark) 0 && isSource (i .source) && isWord (i .text)
 
--- a syllable: stress "0" or "1", no source, no text
+-- a syllable: no source, no text; which stress it may have is the sheet's version's to say (`isSung` in crates/utterance_spec)
 unfoldable pub isSyllableItem : Item → Bool
 isSyllableItem i =
-    eqb (i .kind) 2 && (eqb (i .stress) 48 || eqb (i .stress) 49) && eqb (i .prev) 0 && eqb (i .follow) 0
-    && eqb (i .mark) 0 && eqb (i .source) 0 && eqb (length (i .text)) 0
+    eqb (i .kind) 2 && eqb (i .prev) 0 && eqb (i .follow) 0 && eqb (i .mark) 0 && eqb (i .source) 0 && eqb (length (i .text)) 0
 
 -- a phone: its text at most 15 bytes, each below 128; no stress, no children, no source
 unfoldable pub isPhoneItem : Item → Bool
@@ -78,9 +78,11 @@ isPhoneItem i =
     eqb (i .kind) 3 && eqb (i .stress) 0 && eqb (i .first) 0 && eqb (i .last) 0
     && eqb (i .mark) 0 && eqb (i .source) 0 && leb (length (i .text)) 15 && ascii (i .text)
 
--- item 0: first and last word stand as its children, used as its parent, the last and the first phone before and behind it
+-- item 0: the sheet's version, a known one, stands as its stress (02, S-9); first and last word as its children, used as its parent, the last
+-- and the first phone before and behind it
 unfoldable pub isHeadItem : Item → Bool
-isHeadItem i = eqb (i .kind) 0 && eqb (i .stress) 0 && eqb (i .next) 0 && eqb (i .mark) 0 && eqb (i .source) 0 && eqb (length (i .text)) 0
+isHeadItem i =
+    eqb (i .kind) 0 && isSheetVersion (i .stress) && eqb (i .next) 0 && eqb (i .mark) 0 && eqb (i .source) 0 && eqb (length (i .text)) 0
 
 unfoldable pub fits : Item → Bool
 fits i = if eqb (i .kind) 1 then isWordItem i else if eqb (i .kind) 2 then isSyllableItem i else isPhoneItem i

@@ -1,12 +1,12 @@
--- 01, Store and sheet, and 02, S-6: a sound item in the papers' words, byte by byte and kind by kind, and item 0. `Decided` shows that `isItem`
+-- 01, Store and sheet, and 02, S-6 and S-9: a sound item in the papers' words, byte by byte and kind by kind, and item 0. `Decided` shows that `isItem`
 -- and `isHead` say the same.
 -- Assumes nothing.
 use Prim.Native.Nat.{ℕ, _+_, _≤_}
 use mathlib.Core.Path.{_≡_}
-use mathlib.Core.Logic.{_⊎_}
 use mathlib.Core.List.{List}
 use lib.ListN.{getD}
 use Rattle.records.specs.Between.{Zero, Low}
+use Rattle.versions.specs.SoundStress.{SoundVersion}
 
 -- a text, its length at 16 and its bytes from 17 on: at most so many, each below 128; the bytes past it are zero
 pub record SoundText (r : List ℕ) (most : ℕ) : Type 0 where
@@ -30,10 +30,9 @@ pub record SoundWord (r : List ℕ) : Type 0 where
   pub source : SoundSource (getD r 15 0)
   pub text : SoundText r 47
 
--- a syllable: kind 2, stress "0" or "1"; it has no phone links, no source and no text
+-- a syllable: kind 2; it has no phone links, no source and no text. Its stress is judged with the sheet's version (SoundSheet in crates/utterance_spec)
 pub record SoundSyllable (r : List ℕ) : Type 0 where
   pub kind : getD r 0 0 ≡ 2
-  pub stress : (getD r 1 0 ≡ 48) ⊎ (getD r 1 0 ≡ 49)
   pub noPhoneLinks : Zero r 10 14
   pub unnamed : getD r 14 0 ≡ 0
   pub noSource : getD r 15 0 ≡ 0
@@ -54,7 +53,9 @@ pub data SoundItem (r : List ℕ) : Type 0 where
   syllable : SoundSyllable r → SoundItem r
   phone : SoundPhone r → SoundItem r
 
--- item 0: its fields are bytes 4 to 13, and the others are zero
+-- item 0: its fields are byte 1, a known version, and bytes 4 to 13; the others are zero
 pub record SoundHead (r : List ℕ) : Type 0 where
-  pub before : Zero r 0 4
+  pub kind : getD r 0 0 ≡ 0
+  pub version : SoundVersion (getD r 1 0)
+  pub noNext : Zero r 2 4
   pub behind : Zero r 14 64

@@ -1,21 +1,18 @@
--- 01, Phones: `split_stress` takes off one last byte that is a stress; the rest is the bare phone.
+-- 01, Phones: `split_stress` takes off one last byte that is a stress; the rest is the bare phone. Which bytes are stresses is the sheet's
+-- version's to say (02, S-9): `digits` in crates/versions.
 -- Assumes nothing.
-use Prim.Native.Nat.{ℕ, _-_, _≤_, _<_}
+use Prim.Native.Nat.{ℕ, _-_, _≤_}
 use native.Mathlib.Omega.{arith}
-use mathlib.Core.Path.{_≡_, sym}
+use mathlib.Core.Path.{_≡_, refl, sym, _∙_}
 use mathlib.Core.Bool.{Bool, true, false}
 use mathlib.Core.List.{List}
 use lib.Dec.{eqb}
-use lib.ListN.{length, getD, take}
+use lib.ListN.{length, getD, take, List·getD-eq-default}
 use lib.Seq.{take-length, length-take-le}
-use borrow.Author.Tests.{eq-eqb, ne-eqb, eqb-false}
 use Rattle.texts.specs.Choice.{if_then_else_, cases}
 use Rattle.texts.specs.Lists.{some}
-use Rattle.texts.specs.Text.{bytes}
-
--- the bytes that are stresses
-abbrev pub digits : List ℕ
-digits = bytes "01"
+use Rattle.versions.specs.Versions.{digits, isStress}
+use Rattle.versions.specs.Laws.Stresses.{no-stress}
 
 -- the last byte, 0 where there is none
 unfoldable pub lastByte : List ℕ → ℕ
@@ -58,14 +55,13 @@ pub stress-left : (ds x : List ℕ) → isStressed ds x ≡ false → (length x 
 unfolding bare stress
 stress-left ds x e = (rw e, rw e)
 
--- the two digits are 48 and 49
-pub stressed-in : (x : List ℕ) → 48 ≤ lastByte x → lastByte x < 50 → isStressed digits x ≡ true
-unfolding isStressed some
-stressed-in x low high =
-    cases (eqb (lastByte x) 48)
-    (λ e. rw e)
-    (λ e. let n : lastByte x ≡ 49 = omega (arith, eqb-false (lastByte x) 48 e) in rw (e, eq-eqb (lastByte x) 49 n))
+-- a phone is stressed if its last byte is a stress in the version; one without bytes never is
+pub stressed-by : (v : ℕ) (x : List ℕ) → isStressed (digits v) x ≡ isStress v (lastByte x)
+unfolding isStressed isStress
+stressed-by v x = refl
 
-pub stressed-out : (x : List ℕ) → (lastByte x ≡ 48 → ⊥) → (lastByte x ≡ 49 → ⊥) → isStressed digits x ≡ false
-unfolding isStressed some
-stressed-out x no48 no49 = rw (ne-eqb (lastByte x) 48 no48, ne-eqb (lastByte x) 49 no49)
+pub empty-unstressed : (v : ℕ) (x : List ℕ) → length x ≡ 0 → isStressed (digits v) x ≡ false
+unfolding lastByte
+empty-unstressed v x e =
+    let z : lastByte x ≡ 0 = List·getD-eq-default x 0 (omega arith) in
+    stressed-by v x ∙ rw z (no-stress v 0 (omega arith) (omega arith) (omega arith))

@@ -5,7 +5,8 @@ ghost use Prim.Native.Nat.{_<_};
 ghost use lib.ListN.{length, getD, take, drop};
 ghost use Rattle.texts.specs.Text.{same};
 ghost use Rattle.phoneset.specs.Phones.{phones, noPhone, encoded, rowOf, isVowel, isKnown};
-ghost use Rattle.phoneset.specs.Stress.{digits, bare, stress};
+ghost use Rattle.versions.specs.Versions.{digits};
+ghost use Rattle.phoneset.specs.Stress.{bare, stress};
 
 // A row: a length byte and four bytes for the name, then vc, vlng, vheight, vfront, vrnd, ctype,
 // cplace and cvox.
@@ -152,20 +153,20 @@ pub struct Split {
     pub stress: u8,
 }
 
-// One last byte "0" or "1" taken off as stress.
-pub fn split_stress(phone: &[u8]) -> Split
-    ensures { λ r. ⌜ (r .bare ≡ length (bare digits (now (phone .entry)))) × (r .stress ≡ stress digits (now (phone .entry))) ⌝ }
+// One last byte that is a stress in this version of a sheet (02, S-9) taken off.
+pub fn split_stress(version: u8, phone: &[u8]) -> Split
+    ensures { λ r. ⌜ (r .bare ≡ length (bare (digits version) (now (phone .entry)))) × (r .stress ≡ stress (digits version) (now (phone .entry))) ⌝ }
 {
     let n = phone.len();
     if n == 0 {
         return Split { bare: 0, stress: 0 };
     }
     let last = phone[n - 1];
-    match last {
-        48 | 49 => Split {
+    if versions::is_stress(version, last) {
+        return Split {
             bare: n - 1,
             stress: last,
-        },
-        _ => Split { bare: n, stress: 0 },
+        };
     }
+    Split { bare: n, stress: 0 }
 }

@@ -1,4 +1,5 @@
-// A pronounced word made ready for the sheet: its bare phones, and where its syllables end with what stress.
+// A pronounced word made ready for the sheet: its bare phones, and where its syllables end with what stress. What a stress
+// is, the sheet's version says (02, S-9).
 ghost use mathlib.Core.Path.{_≡_};
 ghost use mathlib.Core.Bool.{false};
 ghost use mathlib.Core.List.{map, _++_};
@@ -7,36 +8,37 @@ ghost use lib.Dec.{eqb};
 ghost use lib.ListN.{length, drop};
 ghost use Rattle.texts.specs.Choice.{if_then_else_};
 ghost use Rattle.cells.specs.Cells.{phonesOf, cellsOf};
-ghost use Rattle.phoneset.specs.Stress.{digits, bare as bareOf};
+ghost use Rattle.versions.specs.Versions.{digits};
+ghost use Rattle.phoneset.specs.Stress.{bare as bareOf};
 ghost use Rattle.onsets.specs.Onsets.{onsets};
 ghost use Rattle.syllabify.specs.Syllables.{marks as marksOf};
 ghost use Rattle.pipeline_spec.specs.Cutting.{stressed as stressedOf, cutsOf};
 
 // A phone without its stress.
-fn bare_phone(phone: &[u8]) -> &[u8]
-    ensures { λ r. ⌜ now r ≡ bareOf digits (now (phone .entry)) ⌝ }
+fn bare_phone(version: u8, phone: &[u8]) -> &[u8]
+    ensures { λ r. ⌜ now r ≡ bareOf (digits version) (now (phone .entry)) ⌝ }
 {
-    records::head(phone, phoneset::split_stress(phone).bare)
+    records::head(phone, phoneset::split_stress(version, phone).bare)
 }
 
 // The bare phones of a list as cells at the front of dst.
-fn put_bare(dst: &mut [u8], phones: &[u8])
+fn put_bare(version: u8, dst: &mut [u8], phones: &[u8])
     requires { ⌜ 16 * (length (now phones) / 16) ≤ length (now dst) ⌝ }
-    ensures { λ _. ⌜ now (dst .exit) ≡ cellsOf (map (bareOf digits) (phonesOf (now (phones .entry)))) ++ drop (16 * (length (now (phones .entry)) / 16)) (now (dst .entry)) ⌝ }
+    ensures { λ _. ⌜ now (dst .exit) ≡ cellsOf (map (bareOf (digits version)) (phonesOf (now (phones .entry)))) ++ drop (16 * (length (now (phones .entry)) / 16)) (now (dst .entry)) ⌝ }
 {
     let n = phones.len() / 16;
     let mut i = 0;
     while i < n {
-        cells::put_cell(dst, i, bare_phone(cells::phone(phones, i)));
+        cells::put_cell(dst, i, bare_phone(version, cells::phone(phones, i)));
         i += 1;
     }
 }
 
 // The stress behind a phone: its own, else the one before it.
-fn stressed(before: u8, phone: &[u8]) -> u8
-    ensures { λ r. ⌜ r ≡ stressedOf before (now (phone .entry)) ⌝ }
+fn stressed(version: u8, before: u8, phone: &[u8]) -> u8
+    ensures { λ r. ⌜ r ≡ stressedOf version before (now (phone .entry)) ⌝ }
 {
-    let own = phoneset::split_stress(phone).stress;
+    let own = phoneset::split_stress(version, phone).stress;
     if own == 0 { before } else { own }
 }
 
@@ -55,15 +57,15 @@ fn carried(mark: u8, stress: u8) -> u8
 }
 
 // The cuts of phones at their marks, at the front of dst.
-fn put_cuts(dst: &mut [u8], phones: &[u8], marks: &[u8])
+fn put_cuts(version: u8, dst: &mut [u8], phones: &[u8], marks: &[u8])
     requires { ⌜ (length (now phones) / 16 ≤ length (now dst)) × (length (now phones) / 16 ≤ length (now marks)) ⌝ }
-    ensures { λ _. ⌜ now (dst .exit) ≡ cutsOf 48 (now (marks .entry)) (phonesOf (now (phones .entry))) ++ drop (length (now (phones .entry)) / 16) (now (dst .entry)) ⌝ }
+    ensures { λ _. ⌜ now (dst .exit) ≡ cutsOf version 48 (now (marks .entry)) (phonesOf (now (phones .entry))) ++ drop (length (now (phones .entry)) / 16) (now (dst .entry)) ⌝ }
 {
     let n = phones.len() / 16;
     let mut last = 48;
     let mut i = 0;
     while i < n {
-        let stress = stressed(last, cells::phone(phones, i));
+        let stress = stressed(version, last, cells::phone(phones, i));
         dst[i] = cut_at(marks[i], stress);
         last = carried(marks[i], stress);
         i += 1;
@@ -71,13 +73,13 @@ fn put_cuts(dst: &mut [u8], phones: &[u8], marks: &[u8])
 }
 
 // The bare phones of a word, its marks and its cuts, each at the front of its room.
-pub fn prepare(phones: &[u8], bare: &mut [u8], marks: &mut [u8], cuts: &mut [u8])
+pub fn prepare(version: u8, phones: &[u8], bare: &mut [u8], marks: &mut [u8], cuts: &mut [u8])
     requires { ⌜ (length (now phones) ≤ 1536) × (length (now bare) ≡ 1536) × (length (now marks) ≡ 96) × (length (now cuts) ≡ 96) ⌝ }
-    ensures { λ _. ⌜ now (bare .exit) ≡ cellsOf (map (bareOf digits) (phonesOf (now (phones .entry)))) ++ drop (16 * (length (now (phones .entry)) / 16)) (now (bare .entry)) ⌝ }
-    ensures { λ _. ⌜ now (cuts .exit) ≡ cutsOf 48 (marksOf onsets false (map (bareOf digits) (phonesOf (now (phones .entry))))) (phonesOf (now (phones .entry))) ++ drop (length (now (phones .entry)) / 16) (now (cuts .entry)) ⌝ }
+    ensures { λ _. ⌜ now (bare .exit) ≡ cellsOf (map (bareOf (digits version)) (phonesOf (now (phones .entry)))) ++ drop (16 * (length (now (phones .entry)) / 16)) (now (bare .entry)) ⌝ }
+    ensures { λ _. ⌜ now (cuts .exit) ≡ cutsOf version 48 (marksOf onsets false (map (bareOf (digits version)) (phonesOf (now (phones .entry))))) (phonesOf (now (phones .entry))) ++ drop (length (now (phones .entry)) / 16) (now (cuts .entry)) ⌝ }
 {
     let end = 16 * (phones.len() / 16);
-    put_bare(bare, phones);
+    put_bare(version, bare, phones);
     syllabify::mark(records::head(bare, end), marks);
-    put_cuts(cuts, phones, marks);
+    put_cuts(version, cuts, phones, marks);
 }

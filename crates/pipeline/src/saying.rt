@@ -8,7 +8,7 @@ ghost use Rattle.data.specs.Places.{Placed};
 ghost use Rattle.store_spec.specs.Store.{entries, isSound};
 ghost use Rattle.compiled_spec.specs.Lexicon.{isLexicon};
 ghost use Rattle.lts_spec.specs.Letters.{isTrees};
-ghost use Rattle.utterance_spec.specs.Sheet.{isSound as isSheet};
+ghost use Rattle.utterance_spec.specs.Sheet.{isSound as isSheet, version};
 ghost use Rattle.answers.specs.Told.{toldSaid};
 ghost use Rattle.pipeline_spec.specs.Pronounced.{pronounced, said as saidOf, tables};
 ghost use Rattle.pipeline_spec.specs.Placing.{placed, sheetPlaced, onSpoken, sheetSpoken};
@@ -18,8 +18,8 @@ use crate::pronouncing;
 use answers::Refusal;
 use answers::Said;
 
-// A pronounced word put last on a sound sheet, if there is room, with its source; place is where its letters stopped, and
-// bare, marks and cuts are rooms to work in.
+// A pronounced word put last on a sound sheet, if there is room, with its source, its stresses by the sheet's version; place
+// is where its letters stopped, and bare, marks and cuts are rooms to work in.
 fn put_cut(
     sheet: &mut [u8],
     word: &[u8],
@@ -32,11 +32,11 @@ fn put_cut(
 ) -> Said
     requires { ⌜ (isSheet (now sheet) ≡ true) × (length (now word) ≤ 47) × (length (now phones) ≤ 1536) ⌝ }
     requires { ⌜ (length (now bare) ≡ 1536) × (length (now marks) ≡ 96) × (length (now cuts) ≡ 96) ⌝ }
-    ensures { λ r. ⌜ toldSaid r ≡ placed (now (sheet .entry)) place (saidOf (now (word .entry)) source (phonesOf (now (phones .entry)))) ⌝ }
-    ensures { λ _. ⌜ now (sheet .exit) ≡ sheetPlaced (now (sheet .entry)) place (saidOf (now (word .entry)) source (phonesOf (now (phones .entry)))) ⌝ }
+    ensures { λ r. ⌜ toldSaid r ≡ placed (now (sheet .entry)) place (saidOf (version (now (sheet .entry))) (now (word .entry)) source (phonesOf (now (phones .entry)))) ⌝ }
+    ensures { λ _. ⌜ now (sheet .exit) ≡ sheetPlaced (now (sheet .entry)) place (saidOf (version (now (sheet .entry))) (now (word .entry)) source (phonesOf (now (phones .entry)))) ⌝ }
 {
     let n = phones.len() / 16;
-    cutting::prepare(phones, bare, marks, cuts);
+    cutting::prepare(utterance::version(sheet), phones, bare, marks, cuts);
     let said = records::head(bare, 16 * n);
     let ends = records::head(cuts, n);
     let size = appending::size(said, ends);
@@ -51,8 +51,8 @@ fn put_cut(
 // The same, with rooms of its own.
 fn put(sheet: &mut [u8], word: &[u8], source: u8, place: usize, phones: &[u8]) -> Said
     requires { ⌜ (isSheet (now sheet) ≡ true) × (length (now word) ≤ 47) × (length (now phones) ≤ 1536) ⌝ }
-    ensures { λ r. ⌜ toldSaid r ≡ placed (now (sheet .entry)) place (saidOf (now (word .entry)) source (phonesOf (now (phones .entry)))) ⌝ }
-    ensures { λ _. ⌜ now (sheet .exit) ≡ sheetPlaced (now (sheet .entry)) place (saidOf (now (word .entry)) source (phonesOf (now (phones .entry)))) ⌝ }
+    ensures { λ r. ⌜ toldSaid r ≡ placed (now (sheet .entry)) place (saidOf (version (now (sheet .entry))) (now (word .entry)) source (phonesOf (now (phones .entry)))) ⌝ }
+    ensures { λ _. ⌜ now (sheet .exit) ≡ sheetPlaced (now (sheet .entry)) place (saidOf (version (now (sheet .entry))) (now (word .entry)) source (phonesOf (now (phones .entry)))) ⌝ }
 {
     let mut bare = [0u8; 1536];
     let mut marks = [0u8; 96];

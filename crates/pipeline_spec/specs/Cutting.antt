@@ -5,7 +5,8 @@ use mathlib.Core.List.{List, [], _∷_, _++_}
 use lib.Dec.{eqb}
 use lib.ListN.{length, drop}
 use Rattle.texts.specs.Choice.{if_then_else_}
-use Rattle.phoneset.specs.Stress.{digits, isStressed, stress}
+use Rattle.versions.specs.Versions.{digits}
+use Rattle.phoneset.specs.Stress.{isStressed, stress}
 use Rattle.cells.specs.Cells.{cellsOf}
 use Rattle.answers.specs.declared.Answer.{Answer}
 use Rattle.answers.specs.Told.{refused, acceptedWith}
@@ -21,12 +22,12 @@ abbrev pub cellsSpoken : Spoken → List ℕ → List ℕ
 cellsSpoken (barred n) room = room
 cellsSpoken (phones source place ps) room = cellsOf ps ++ drop (16 * length ps) room
 
--- the stress behind a phone: its own, else the one before it
-unfoldable pub stressed : ℕ → List ℕ → ℕ
-stressed d p = if isStressed digits p then stress digits p else d
+-- the stress behind a phone in version v: its own, else the one before it
+unfoldable pub stressed : ℕ → ℕ → List ℕ → ℕ
+stressed v d p = if isStressed (digits v) p then stress (digits v) p else d
 
 -- at each phone the stress of the syllable that a mark ends there, 0 where none ends; d is the last stress before
-unfoldable pub cutsOf : ℕ → List ℕ → List (List ℕ) → List ℕ
-cutsOf d [] ps = []
-cutsOf d (m ∷ ms) [] = []
-cutsOf d (m ∷ ms) (p ∷ ps) = if eqb m 1 then stressed d p ∷ cutsOf 48 ms ps else 0 ∷ cutsOf (stressed d p) ms ps
+unfoldable pub cutsOf : ℕ → ℕ → List ℕ → List (List ℕ) → List ℕ
+cutsOf v d [] ps = []
+cutsOf v d (m ∷ ms) [] = []
+cutsOf v d (m ∷ ms) (p ∷ ps) = if eqb m 1 then stressed v d p ∷ cutsOf v 48 ms ps else 0 ∷ cutsOf v (stressed v d p) ms ps

@@ -1,4 +1,5 @@
--- 01, Store and sheet: say word follows `insert_pronunciations`. The phones of a word: looked up, or from the letter trees where no source has it; and its syllables.
+-- 01, Store and sheet, and 02, S-9: say word follows `insert_pronunciations`. The phones of a word: looked up, or from the letter trees where no
+-- source has it; and its syllables, with the stresses of the sheet's version.
 -- Assumes nothing.
 use Prim.Native.Nat.{ℕ}
 use mathlib.Core.Bool.{false}
@@ -7,7 +8,8 @@ use mathlib.Core.Option.{Option, none, some}
 use lib.Dec.{ltb}
 use lib.ListN.{length}
 use Rattle.texts.specs.Choice.{if_then_else_}
-use Rattle.phoneset.specs.Stress.{digits, isStressed, stress, bare}
+use Rattle.versions.specs.Versions.{digits}
+use Rattle.phoneset.specs.Stress.{isStressed, stress, bare}
 use Rattle.onsets.specs.Onsets.{onsets}
 use Rattle.slots_spec.specs.Slot.{Entry}
 use Rattle.syllabify.specs.Syllables.{marks, syllables}
@@ -50,15 +52,16 @@ unfoldable pub pronounced : Sections → List Entry → List ℕ → List ℕ �
 pronounced c es word tag =
     onFinding (find es (c .lexPhones) (c .lexIndex) (c .lexData) word (wantedTag tag)) (letters (c .ltsPhones) (c .ltsIndex) (c .ltsModel) word) (stopped word)
 
--- the last stress among phones, d if there is none
-unfoldable pub lastStress : ℕ → List (List ℕ) → ℕ
-lastStress d [] = d
-lastStress d (p ∷ ps) = lastStress (if isStressed digits p then stress digits p else d) ps
+-- the last stress of version v among phones, d if there is none
+unfoldable pub lastStress : ℕ → ℕ → List (List ℕ) → ℕ
+lastStress v d [] = d
+lastStress v d (p ∷ ps) = lastStress v (if isStressed (digits v) p then stress (digits v) p else d) ps
 
 -- a syllable: its last stress, else "0", and its bare phones
-unfoldable pub sung : List (List ℕ) → Syllable
-sung ps = record { stress = lastStress 48 ps; phones = map (bare digits) ps }
+unfoldable pub sung : ℕ → List (List ℕ) → Syllable
+sung v ps = record { stress = lastStress v 48 ps; phones = map (bare (digits v)) ps }
 
--- the word as given, with its source (02, S-6); its syllables end at syllabify's marks over the bare phones
-unfoldable pub said : List ℕ → ℕ → List (List ℕ) → Word
-said word source ps = record { text = word; source = source; syllables = map sung (syllables (marks onsets false (map (bare digits) ps)) ps) }
+-- the word as given, with its source (02, S-6); its syllables end at syllabify's marks over the bare phones of the version (02, S-9)
+unfoldable pub said : ℕ → List ℕ → ℕ → List (List ℕ) → Word
+said v word source ps =
+    record { text = word; source = source; syllables = map (sung v) (syllables (marks onsets false (map (bare (digits v)) ps)) ps) }

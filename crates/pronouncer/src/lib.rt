@@ -4,7 +4,8 @@ ghost use lib.ListN.{length};
 ghost use Rattle.texts.specs.Choice.{bit};
 ghost use Rattle.answers.specs.Told.{accepted};
 ghost use Rattle.phoneset.specs.Phones.{isVowel};
-ghost use Rattle.phoneset.specs.Stress.{digits, bare, stress};
+ghost use Rattle.versions.specs.Versions.{digits};
+ghost use Rattle.phoneset.specs.Stress.{bare, stress};
 ghost use Rattle.syllabify.specs.Call.{syllabify, syllabified};
 ghost use Rattle.lts_spec.specs.Call.{predict, predicted};
 ghost use Rattle.language.specs.Call.{isSayable};
@@ -146,13 +147,13 @@ pub extern "C" fn pronouncer_accept_entries(store: &mut [u8], spare: &[u8]) -> A
     answers::told_done(accept_entries::accept_entries(store, spare))
 }
 
-// a sheet
+// a sheet, a version
 #[no_mangle]
-pub extern "C" fn pronouncer_new_sheet(sheet: &mut [u8]) -> Answer
-    ensures { λ r. ⌜ r ≡ newSheet (now (sheet .entry)) ⌝ }
-    ensures { λ _. ⌜ now (sheet .exit) ≡ newSheetBytes (now (sheet .entry)) ⌝ }
+pub extern "C" fn pronouncer_new_sheet(sheet: &mut [u8], version: u32) -> Answer
+    ensures { λ r. ⌜ r ≡ newSheet (now (sheet .entry)) version ⌝ }
+    ensures { λ _. ⌜ now (sheet .exit) ≡ newSheetBytes (now (sheet .entry)) version ⌝ }
 {
-    answers::told_done(new_sheet::new_sheet(sheet))
+    answers::told_done(new_sheet::new_sheet(sheet, version))
 }
 
 // a sheet, an output
@@ -229,11 +230,12 @@ pub extern "C" fn pronouncer_is_vowel(phone: &[u8]) -> Answer
     answers::accepted(0, 0)
 }
 
-// A phone's stress as `kind`, 0 where it has none, and the length of its bare phone as `value`. Not a call of the papers.
+// A phone's stress as `kind`, 0 where it has none, and the length of its bare phone as `value`, by version 1 of a sheet. Not
+// a call of the papers.
 #[no_mangle]
 pub extern "C" fn pronouncer_split_stress(phone: &[u8]) -> Answer
-    ensures { λ r. ⌜ r ≡ accepted (stress digits (now (phone .entry))) (length (bare digits (now (phone .entry)))) ⌝ }
+    ensures { λ r. ⌜ r ≡ accepted (stress (digits 1) (now (phone .entry))) (length (bare (digits 1) (now (phone .entry)))) ⌝ }
 {
-    let split = phoneset::split_stress(phone);
+    let split = phoneset::split_stress(1, phone);
     answers::accepted(split.stress as u32, split.bare)
 }

@@ -15,7 +15,8 @@ use Rattle.answers.specs.Told.{accepted, acceptedWith, sourceNumber}
 use Rattle.records.specs.Records.{records, firstRecords}
 use Rattle.cells.specs.Cells.{cellsOf, cell, text, phonesOf, asciiPhones, shortPhones, shortCell}
 use Rattle.phoneset.specs.Phones.{phones, rowOf, isKnown, isVowel}
-use Rattle.phoneset.specs.Stress.{digits, lastByte, isStressed, stress, bare}
+use Rattle.versions.specs.Versions.{digits}
+use Rattle.phoneset.specs.Stress.{lastByte, isStressed, stress, bare}
 use Rattle.onsets.specs.Onsets.{onsets, isOnset}
 use Rattle.syllabify.specs.Syllables.{marks as marksOf, cut, joined}
 use Rattle.syllabify.specs.Call.{syllabify, syllabified}
@@ -41,8 +42,10 @@ use Rattle.rehearsed.specs.Grown.{Add, grown, AllAccepted, book, isOwn, 
 pub data Case : Type 0 where
   -- phones handed to syllabify, and the digits of their marks
   marks : List String → String → Case
-  -- a phone, its bare phone and its stress, if it has one
-  stressed : String → String → String → Case
+  -- a version of the sheet (02, S-9), a phone, its bare phone and its stress, if it has one
+  stressed : ℕ → String → String → String → Case
+  -- a phone that is a vowel, bare, in a version
+  vowel : ℕ → String → Case
   -- a word for which predict gives no phones, whatever the trees, and where its letters stop (02, S-5)
   unspoken : String → ℕ → Case
   -- entries added to a new store, and what a word without a tag then gives, whatever the lexicon: its source and its phones
@@ -64,7 +67,8 @@ Holds (marks ps ms) =
     let given = cellsOf (map bytes ps) in
     let buffer : List ℕ = map (λ (d : ℕ). 9) (bytes ms) in
     (syllabify given buffer ≡ accepted 0 (length (bytes ms))) × (syllabified given buffer ≡ bits (bytes ms))
-Holds (stressed p b s) = (bare digits (bytes p) ≡ bytes b) × (stress digits (bytes p) ≡ stressOf (bytes s))
+Holds (stressed v p b s) = (bare (digits v) (bytes p) ≡ bytes b) × (stress (digits v) (bytes p) ≡ stressOf (bytes s))
+Holds (vowel v p) = isVowel (bare (digits v) (bytes p)) ≡ true
 Holds (unspoken w stop) =
     (lts-phones lts-index lts-model out : List ℕ) → isTrees lts-phones lts-index lts-model ≡ true
     → (predict lts-phones lts-index lts-model (bytes w) out ≡ acceptedWith 0 0 stop 0) × (predicted lts-phones lts-index lts-model (bytes w) out ≡ out)
@@ -109,8 +113,10 @@ cases =
     marks ("t" ∷ "pau" ∷ "aa" ∷ []) "101" ∷
     marks ("ae" ∷ "t" ∷ "h" ∷ "r" ∷ "ax" ∷ []) "10001" ∷
     marks ("ae" ∷ "t" ∷ "l" ∷ "ax" ∷ []) "0101" ∷
-    stressed "ax11" "ax1" "1" ∷
-    stressed "ae2" "ae2" "" ∷
+    stressed 1 "ax11" "ax1" "1" ∷
+    stressed 1 "ae2" "ae2" "" ∷
+    stressed 2 "ae2" "ae" "2" ∷
+    vowel 2 "ae2" ∷
     unspoken "" 0 ∷
     unspoken "a#" 2 ∷
     looked [] "in" Addenda ("ih" ∷ "n" ∷ []) ∷
@@ -154,7 +160,7 @@ plain adds word s ps p w f few lex-phones lex-index lex-data b out l n room fits
     rw n (g .taken, a .0, a .1)
 
 pub rehearsed : Each cases
-unfolding cases syllabify syllabified phonesOf cellsOf cell text records firstRecords asciiPhones shortPhones shortCell ascii low every any same is place phones rowOf isVowel onsets isOnset marksOf cut joined lastByte isStressed stress bare isWord folded letters stopped behindLast upTo padded isPlain isOwn isKnown book find first isWanted isMeant addenda agree chosenEntry orElse storedWord newEntry entryFor addedTag adding without sameKey
+unfolding cases syllabify syllabified phonesOf cellsOf cell text records firstRecords asciiPhones shortPhones shortCell ascii low every any same is place phones rowOf isVowel onsets isOnset marksOf cut joined digits lastByte isStressed stress bare isWord folded letters stopped behindLast upTo padded isPlain isOwn isKnown book find first isWanted isMeant addenda agree chosenEntry orElse storedWord newEntry entryFor addedTag adding without sameKey
 rehearsed = (
   (refl, refl),
   (
@@ -176,20 +182,26 @@ rehearsed = (
                   (
                     (refl, refl),
                     (
-                      (λ p i m out t. nothing p i m out [] refl refl t),
+                      (refl, refl),
                       (
-                        (λ p i m out t. nothing p i m out (bytes "a#") refl refl t),
+                        refl,
                         (
-                          plain [] (bytes "in") Addenda (map bytes ("ih" ∷ "n" ∷ [])) refl refl (λ p i d. refl) (omega arith),
+                          (λ p i m out t. nothing p i m out [] refl refl t),
                           (
-                            plain [] (bytes ",") Addenda [] refl refl (λ p i d. refl) (omega arith),
+                            (λ p i m out t. nothing p i m out (bytes "a#") refl refl t),
                             (
-                              plain (entry "lead" "v" ("l" ∷ "iy" ∷ "d" ∷ []) ∷ entry "lead" "n" ("l" ∷ "eh" ∷ "d" ∷ []) ∷ []) (bytes "lead") Runtime (map bytes ("l" ∷ "iy" ∷ "d" ∷ [])) refl refl (λ p i d. refl) (omega arith),
+                              plain [] (bytes "in") Addenda (map bytes ("ih" ∷ "n" ∷ [])) refl refl (λ p i d. refl) (omega arith),
                               (
-                                plain (entry "lead" "v" ("l" ∷ "iy" ∷ "d" ∷ []) ∷ entry "lead" "n" ("l" ∷ "eh" ∷ "d" ∷ []) ∷ entry "lead" "v" ("l" ∷ "iy" ∷ "d" ∷ []) ∷ []) (bytes "lead") Runtime (map bytes ("l" ∷ "eh" ∷ "d" ∷ [])) refl refl (λ p i d. refl) (omega arith),
+                                plain [] (bytes ",") Addenda [] refl refl (λ p i d. refl) (omega arith),
                                 (
-                                  plain (toPolish ∷ fromPoland ∷ []) (bytes "Polish") Runtime (map bytes theName) refl refl (λ p i d. refl) (omega arith),
-                                  (plain (fromPoland ∷ toPolish ∷ []) (bytes "POLISH") Runtime (map bytes theVerb) refl refl (λ p i d. refl) (omega arith), tt),
+                                  plain (entry "lead" "v" ("l" ∷ "iy" ∷ "d" ∷ []) ∷ entry "lead" "n" ("l" ∷ "eh" ∷ "d" ∷ []) ∷ []) (bytes "lead") Runtime (map bytes ("l" ∷ "iy" ∷ "d" ∷ [])) refl refl (λ p i d. refl) (omega arith),
+                                  (
+                                    plain (entry "lead" "v" ("l" ∷ "iy" ∷ "d" ∷ []) ∷ entry "lead" "n" ("l" ∷ "eh" ∷ "d" ∷ []) ∷ entry "lead" "v" ("l" ∷ "iy" ∷ "d" ∷ []) ∷ []) (bytes "lead") Runtime (map bytes ("l" ∷ "eh" ∷ "d" ∷ [])) refl refl (λ p i d. refl) (omega arith),
+                                    (
+                                      plain (toPolish ∷ fromPoland ∷ []) (bytes "Polish") Runtime (map bytes theName) refl refl (λ p i d. refl) (omega arith),
+                                      (plain (fromPoland ∷ toPolish ∷ []) (bytes "POLISH") Runtime (map bytes theVerb) refl refl (λ p i d. refl) (omega arith), tt),
+                                    ),
+                                  ),
                                 ),
                               ),
                             ),

@@ -1,5 +1,5 @@
--- An accepted say word: what its tests said; and that it leaves a sound sheet that reads as before and then the word, with the source and the
--- phones that it came to.
+-- An accepted say word: what its tests said; and that it leaves a sound sheet of the same version that reads as before and then the word, with the
+-- source and the phones that it came to.
 -- Assumes nothing.
 use Prim.Native.Nat.{ℕ, _+_}
 use native.Mathlib.Omega.{arith}
@@ -14,7 +14,8 @@ use Rattle.lts_spec.specs.Letters.{isTrees}
 use Rattle.store_spec.specs.Store.{entries, isSound}
 use Rattle.store_spec.specs.Sound.{sound as sound-store}
 use Rattle.compiled_spec.specs.Lexicon.{isLexicon}
-use Rattle.utterance_spec.specs.Sheet.{used, items, reading, isSound as isSheet}
+use Rattle.utterance_spec.specs.Tree.{putLast}
+use Rattle.utterance_spec.specs.Sheet.{used, items, version, page, isSound as isSheet}
 use Rattle.utterance_spec.specs.Sound.{Sound}
 use Rattle.utterance_spec.specs.Append.{size, appended}
 use Rattle.utterance_spec.specs.Decided.{sound}
@@ -45,7 +46,7 @@ module _ (c : Sections) (store sheet word tag : List ℕ) where
     pub phones : List (List ℕ)
     pub came : pronounced c (entries store) word tag ≡ comes source place phones
     pub sound : Sound (sheetAfter c store sheet word tag)
-    pub reads : reading (sheetAfter c store sheet word tag) ≡ reading sheet ++ (said word source phones ∷ [])
+    pub reads : page (sheetAfter c store sheet word tag) ≡ putLast (said (version sheet) word source phones) (page sheet)
 
   passed : sayWord c store sheet word tag .refusal ≡ 0 → Passed
   unfolding sayWord
@@ -70,7 +71,7 @@ module _ (c : Sections) (store sheet word tag : List ℕ) where
       let z : sayWord c store sheet word tag ≡ onSpoken sheet word (barred n) = t .answer ∙ ap (onSpoken sheet word) e in
       absurd (real (sym (ap (λ (a : Answer). a .refusal) z) ∙ h))
   came-to h t (comes source place ps) e =
-      let w = said word source ps in
+      let w = said (version sheet) word source ps in
       let z : sayWord c store sheet word tag ≡ onSpoken sheet word (comes source place ps) = t .answer ∙ ap (onSpoken sheet word) e in
       let y = sym (ap (λ (a : Answer). a .refusal) z) ∙ h in
       cases (isCrowded sheet w)
@@ -80,7 +81,7 @@ module _ (c : Sections) (store sheet word tag : List ℕ) where
       let s = sound sheet (t .soundSheet) in
       let es = entries-fit store (sound-store store (t .soundStore)) in
       let text = both-true (isWord word) (isWord tag) (t .texts) .0 in
-      let may = pronounced-stands c (entries store) word tag es (t .lexicon) (t .trees) text source place ps e in
+      let may = pronounced-stands (version sheet) c (entries store) word tag es (t .lexicon) (t .trees) text source place ps e in
       let room = leb-false (items sheet) (used sheet + size w) f in
       record {
         tests = t;
@@ -89,7 +90,7 @@ module _ (c : Sections) (store sheet word tag : List ℕ) where
         phones = ps;
         came = e;
         sound = subst Sound (sym left) (append-law sheet w s may room .sound);
-        reads = ap reading left ∙ append-reads sheet w s may room;
+        reads = ap page left ∙ append-reads sheet w s may room;
       })
 
   pub say-law : sayWord c store sheet word tag .refusal ≡ 0 → Taken

@@ -19,7 +19,7 @@ use Rattle.lexicon_spec.specs.Lookup.{Finding, nothing, damaged, found, wantedT
 use Rattle.lookup.specs.Lookup.{lookup, lookup-on-entries}
 use Rattle.lookup.specs.CheckedLookup.{Undamaged, find-undamaged}
 use Rattle.utterance_spec.specs.Tree.{Word}
-use Rattle.utterance_spec.specs.Sheet.{isSound as isSheet}
+use Rattle.utterance_spec.specs.Sheet.{version, isSound as isSheet}
 use Rattle.answers.specs.Told.{sourceNumber, refused, accepted}
 use Rattle.pipeline_spec.specs.Pronounced.{Sections, onFinding, pronounced, said}
 use Rattle.pipeline_spec.specs.Placing.{isCrowded, placed, onSpoken}
@@ -35,12 +35,12 @@ placed-never sheet place w h =
 -- what is left of the ways to 6: nothing found, and no phones from the trees
 only-trees : (sheet word : List ℕ) (f : Finding) (o : Option (List (List ℕ))) (place : ℕ) → Undamaged f → onSpoken sheet word (onFinding f o place) .refusal ≡ 6 → (f ≡ nothing) × (o ≡ none)
 only-trees sheet word nothing none place u h = (refl, refl)
-only-trees sheet word nothing (some ps) place u h = absurd (placed-never sheet place (said word 4 ps) h)
+only-trees sheet word nothing (some ps) place u h = absurd (placed-never sheet place (said (version sheet) word 4 ps) h)
 only-trees sheet word damaged o place u h = absurd u
 only-trees sheet word (found s ps) o place u h =
     cases (ltb 96 (length ps))
     (λ e. let z : _≡_ {A = ℕ} 7 6 = rw e at h in absurd (omega arith))
-    (λ e. absurd (placed-never sheet 0 (said word (sourceNumber s) ps) (rw e at h)))
+    (λ e. absurd (placed-never sheet 0 (said (version sheet) word (sourceNumber s) ps) (rw e at h)))
 
 -- a say word that is refused by 6: lookup says none, and predict is refused by 6, whatever their output
 pub checked-saying : (c : Sections) → checkLexicon (c .lexPhones) (c .lexIndex) (c .lexData) ≡ accepted 1 0 → (store sheet word tag : List ℕ)

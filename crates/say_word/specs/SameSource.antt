@@ -3,7 +3,7 @@
 use Prim.Native.Nat.{ℕ, _*_}
 use native.Mathlib.Omega.{arith}
 use mathlib.Core.Path.{_≡_, refl, sym, ap, _∙_, subst}
-use mathlib.Core.List.{List, [], _∷_, _++_}
+use mathlib.Core.List.{List}
 use mathlib.Core.Option.{Option, none, some}
 use lib.Dec.{eqb, ltb}
 use lib.ListN.{length}
@@ -12,8 +12,8 @@ use Rattle.store_spec.specs.Store.{entries}
 use Rattle.lts_spec.specs.Letters.{letters, stopped}
 use Rattle.lexicon_spec.specs.Lookup.{Finding, nothing, damaged, found, find, wantedTag, toldFinding}
 use Rattle.lookup.specs.Lookup.{lookup, lookup-on-entries}
-use Rattle.utterance_spec.specs.Tree.{Word}
-use Rattle.utterance_spec.specs.Sheet.{reading}
+use Rattle.utterance_spec.specs.Tree.{Word, putLast}
+use Rattle.utterance_spec.specs.Sheet.{version, page}
 use Rattle.answers.specs.declared.Answer.{Answer}
 use Rattle.answers.specs.declared.Source.{Source}
 use Rattle.answers.specs.declared.Source.the-variants.{Runtime, Addenda, Compiled}
@@ -29,7 +29,7 @@ sourceBy kind = if eqb kind 0 then 4 else kind
 -- the word that stands last on the sheet, and its source
 pub record Sourced (c : Sections) (store sheet word tag : List ℕ) (kind : ℕ) : Type 0 where
   pub last : Word
-  pub reads : reading (sheetAfter c store sheet word tag) ≡ reading sheet ++ (last ∷ [])
+  pub reads : page (sheetAfter c store sheet word tag) ≡ putLast last (page sheet)
   pub source : last .source ≡ sourceBy kind
 
 -- phones are no refusal, and have a source
@@ -71,7 +71,7 @@ same-source c store sheet word tag out h g =
     let l = lookup-on-entries (c .lexPhones) (c .lexIndex) (c .lexData) store word tag out (t .tests .lexicon) (t .tests .soundStore) (t .tests .texts) .0 in
     let k = by-finding f o (stopped word) out (subst HasPhones (sym (t .came)) tt) (sym (ap (λ (a : Answer). a .refusal) l) ∙ g) in
     record {
-      last = said word (t .source) (t .phones);
+      last = said (version sheet) word (t .source) (t .phones);
       reads = t .reads;
       source = sym (ap sourceIn (t .came)) ∙ k ∙ ap (λ (a : Answer). sourceBy (a .kind)) (sym l);
     }

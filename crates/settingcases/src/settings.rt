@@ -3,39 +3,33 @@ use answers::Answer;
 use answers::Settings;
 use caseline::Given;
 
-// Whether argument k of a line has four bytes.
-fn is_word(room: &[u8], given: Given, k: usize) -> bool {
-    caseline::argument(room, given, k).len() == 4
-}
-
-// Argument k of a line as a number, its low byte first.
-fn word(room: &[u8], given: Given, k: usize) -> u32 {
-    records::u32_at(caseline::argument(room, given, k), 0)
-}
-
 // Whether the version and the show's stretch of a line have four bytes each.
 pub fn are_read_words(room: &[u8], given: Given) -> bool {
-    if is_word(room, given, 1) {
-        return is_word(room, given, 2);
+    if caseline::is_four_bytes(room, given, 1) {
+        return caseline::is_four_bytes(room, given, 2);
     }
     false
 }
 
 // Whether the version, the kind and the value of a line have four bytes each.
 pub fn are_write_words(room: &[u8], given: Given) -> bool {
-    if !is_word(room, given, 1) {
+    if !caseline::is_four_bytes(room, given, 1) {
         return false;
     }
-    if is_word(room, given, 3) {
-        return is_word(room, given, 4);
+    if caseline::is_four_bytes(room, given, 3) {
+        return caseline::is_four_bytes(room, given, 4);
     }
     false
 }
 
 // The answer of read_settings on a store; its other arguments are those of a line, in the order there.
 pub fn shown(room: &[u8], given: Given, settings: &[u8]) -> Settings {
-    let show = values::real_of(word(room, given, 2));
-    answers::told_shown(read_settings::read_settings(settings, word(room, given, 1), show))
+    let show = values::real_of(caseline::four_bytes(room, given, 2));
+    answers::told_shown(read_settings::read_settings(
+        settings,
+        caseline::four_bytes(room, given, 1),
+        show,
+    ))
 }
 
 // Whether these bits are the four bytes of token k of a line.
@@ -89,9 +83,12 @@ pub fn run_read_settings(line: &[u8], regs: &[u8], room: &mut [u8]) -> bool {
 pub fn written(room: &[u8], given: Given, settings: &mut [u8]) -> Answer {
     let a = write_setting::write_setting(
         settings,
-        word(room, given, 1),
+        caseline::four_bytes(room, given, 1),
         caseline::argument(room, given, 2),
-        values::setting_of(word(room, given, 3), word(room, given, 4)),
+        values::setting_of(
+            caseline::four_bytes(room, given, 3),
+            caseline::four_bytes(room, given, 4),
+        ),
     );
     answers::told_done(a)
 }

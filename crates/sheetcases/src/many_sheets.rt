@@ -183,7 +183,7 @@ fn are_told(said: Repeats, bytes: u64, line: &[u8]) -> bool {
 
 // fill_sheet with its arguments read and its sheet loaded
 fn fill_sheet_on(line: &[u8], room: &[u8], given: Given, sheet: &mut [u8]) -> bool {
-    if answers::told_done(new_sheet::new_sheet(sheet)).refusal != 0 {
+    if answers::told_done(new_sheet::new_sheet(sheet, 1)).refusal != 0 {
         return false;
     }
     let said = say_on(room, given, sheet);

@@ -4,17 +4,20 @@ use caseline::Given;
 
 // new_sheet with its arguments read and its sheet loaded
 fn new_sheet_on(line: &[u8], regs: &[u8], room: &mut [u8], given: Given, sheet: &mut [u8]) -> bool {
-    let a = new_sheet::new_sheet(sheet);
-    if !caseline::agrees(answers::told_done(a), line, 3) {
+    let a = new_sheet::new_sheet(sheet, caseline::four_bytes(room, given, 1));
+    if !caseline::agrees(answers::told_done(a), line, 4) {
         return false;
     }
-    caseline::as_told(sheet, line, 6, regs, room, given, 0)
+    caseline::as_told(sheet, line, 7, regs, room, given, 0)
 }
 
-// new_sheet SHEET -> REFUSAL KIND VALUE SHEET
+// new_sheet SHEET VERSION -> REFUSAL KIND VALUE SHEET
 pub fn run_new_sheet(line: &[u8], regs: &[u8], room: &mut [u8], out: &mut [u8]) -> bool {
-    let given = caseline::arguments(line, 1, regs, room);
+    let given = caseline::arguments(line, 2, regs, room);
     if !given.ok {
+        return false;
+    }
+    if !caseline::is_four_bytes(room, given, 1) {
         return false;
     }
     let n = caseline::load(out, caseline::argument(room, given, 0));

@@ -1,5 +1,5 @@
-// One walk over the items in reading order: whether all are met and well placed, each syllable has a phone, and the
-// phones are chained.
+// One walk over the items in reading order: whether all are met and well placed, each syllable has a stress and a phone,
+// and the phones are chained.
 ghost use mathlib.Core.Path.{_≡_};
 ghost use Prim.Native.Nat.{_<_};
 ghost use Rattle.utterance_spec.specs.Sheet.{at, used as usedOf, items, isPlaced};
@@ -10,9 +10,9 @@ use utterance::inside::item;
 use utterance::inside::kind;
 use utterance::inside::prev;
 use utterance::inside::used;
-use utterance::is_full;
 use utterance::is_parent;
 use utterance::is_sibling;
+use utterance::is_sung;
 
 // Whether an item is numbered 1 to used, sound by itself, and agrees with its neighbours.
 fn is_placed(sheet: &[u8], i: u16) -> bool
@@ -67,7 +67,8 @@ fn is_last(sheet: &[u8], q: u16) -> bool
     prev(sheet, 0) == q
 }
 
-// Whether item x, behind phone q, is well placed, has a phone if it is a syllable, and is tied to q if it is a phone.
+// Whether item x, behind phone q, is well placed, has a stress and a phone if it is a syllable, and is tied to q if it is
+// a phone.
 fn is_met(sheet: &[u8], q: u16, x: u16) -> bool
     requires { ⌜ (usedOf (now sheet) < items (now sheet)) × (q < items (now sheet)) ⌝ }
     ensures { λ r. ⌜ r ≡ isMet (now (sheet .entry)) q x ⌝ }
@@ -75,7 +76,7 @@ fn is_met(sheet: &[u8], q: u16, x: u16) -> bool
     if !is_placed(sheet, x) {
         return false;
     }
-    if !is_full(sheet, x) {
+    if !is_sung(sheet, x) {
         return false;
     }
     is_tied(sheet, q, x)

@@ -3,7 +3,7 @@ ghost use mathlib.Core.Path.{_≡_};
 ghost use Prim.Native.Nat.{_<_};
 ghost use Rattle.records.specs.Fields.{u16At};
 ghost use Rattle.records.specs.Records.{recordAt};
-ghost use Rattle.utterance_spec.specs.Sheet.{at, used as usedOf, isSheetLength};
+ghost use Rattle.utterance_spec.specs.Sheet.{at, used as usedOf, version as versionOf, isSheetLength};
 
 // The bytes of item n.
 pub fn item(sheet: &[u8], n: u16) -> &[u8]
@@ -69,6 +69,13 @@ pub fn used(sheet: &[u8]) -> u16
     ensures { λ r. ⌜ r ≡ usedOf (now (sheet .entry)) ⌝ }
 {
     parent(sheet, 0)
+}
+
+// The sheet's version (02, S-9).
+pub fn version(sheet: &[u8]) -> u8
+    ensures { λ r. ⌜ r ≡ versionOf (now (sheet .entry)) ⌝ }
+{
+    records::byte_at(sheet, 1)
 }
 
 // The text of item n.

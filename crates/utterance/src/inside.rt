@@ -29,6 +29,14 @@ pub fn kind(sheet: &[u8], n: u16) -> u8
     sheet[64 * (n as usize)]
 }
 
+// The stress; of item 0 the sheet's version.
+pub fn stress(sheet: &[u8], n: u16) -> u8
+    requires { ⌜ n < items (now sheet) ⌝ }
+    ensures { λ r. ⌜ r ≡ at (now (sheet .entry)) n .stress ⌝ }
+{
+    sheet[64 * (n as usize) + 1]
+}
+
 // The next sibling.
 pub fn next(sheet: &[u8], n: u16) -> u16
     requires { ⌜ n < items (now sheet) ⌝ }

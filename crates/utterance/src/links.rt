@@ -2,7 +2,7 @@
 // item is inside the sheet; a neighbour may be past its end, where fields read as zero.
 ghost use mathlib.Core.Path.{_≡_};
 ghost use Prim.Native.Nat.{_<_};
-ghost use Rattle.utterance_spec.specs.Sheet.{at, items, afterSyllable, afterPhone, beyond as beyondOf, after as afterOf, isParent, isSibling, isFull};
+ghost use Rattle.utterance_spec.specs.Sheet.{at, items, afterSyllable, afterPhone, beyond as beyondOf, after as afterOf, isParent, isSibling, isSung, version};
 use crate::fields;
 use crate::inside;
 
@@ -87,13 +87,16 @@ pub fn is_sibling(sheet: &[u8], i: u16) -> bool
     fields::kind(sheet, n) == inside::kind(sheet, i)
 }
 
-// Whether an item has a phone if it is a syllable.
-pub fn is_full(sheet: &[u8], i: u16) -> bool
+// Whether an item has a stress of the sheet's version, and a phone, if it is a syllable.
+pub fn is_sung(sheet: &[u8], i: u16) -> bool
     requires { ⌜ i < items (now sheet) ⌝ }
-    ensures { λ r. ⌜ r ≡ isFull (at (now (sheet .entry))) i ⌝ }
+    ensures { λ r. ⌜ r ≡ isSung (at (now (sheet .entry))) (version (now (sheet .entry))) i ⌝ }
 {
     if inside::kind(sheet, i) != 2 {
         return true;
+    }
+    if !versions::is_stress(inside::stress(sheet, 0), inside::stress(sheet, i)) {
+        return false;
     }
     inside::first(sheet, i) != 0
 }

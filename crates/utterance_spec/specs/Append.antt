@@ -1,8 +1,8 @@
--- 01, Store and sheet, and 02, S-6: a word put last. Its items are numbered word, syllable, its phones, next syllable, and written whole;
+-- 01, Store and sheet, and 02, S-6 and S-9: a word put last. Its items are numbered word, syllable, its phones, next syllable, and written whole;
 -- then the last word and the last phone are tied to it, and item 0 is patched.
 -- Assumes nothing.
 use Prim.Native.Nat.{ℕ, _+_, _*_}
-use mathlib.Core.Bool.{Bool, cond, _&&_, _||_}
+use mathlib.Core.Bool.{Bool, cond, _&&_}
 use mathlib.Core.List.{List, [], _∷_, _++_}
 use lib.Dec.{eqb, leb}
 use lib.ListN.{length}
@@ -11,6 +11,7 @@ use Rattle.texts.specs.Text.{isWord, isPhone}
 use Rattle.records.specs.Fields.{put16}
 use Rattle.records.specs.Records.{putRecord}
 use Rattle.records.specs.Chain.{endOf}
+use Rattle.versions.specs.Versions.{isStress}
 use Rattle.items_spec.specs.Item.{Item, item, isSource}
 use Rattle.utterance_spec.specs.Tree.{Syllable, Word, SyllableAt, WordAt, syllablesAt, phonesIn}
 use Rattle.utterance_spec.specs.Sheet.{at, used}
@@ -83,9 +84,9 @@ appended b w =
     let ps = phonesIn (numbered (n + 1) (w .syllables)) in
     tied (putItems b n (wordItems n lp w)) (at b 0 .last) lp n (headOr 0 ps) (endOf lp ps) (used b + size w)
 
--- a syllable, and a word, that a sheet may hold
-unfoldable pub isSyllable : Syllable → Bool
-isSyllable y = (eqb (y .stress) 48 || eqb (y .stress) 49) && leb 1 (length (y .phones)) && every isPhone (y .phones)
+-- a syllable, and a word, that a sheet of version v may hold
+unfoldable pub isSyllable : ℕ → Syllable → Bool
+isSyllable v y = isStress v (y .stress) && leb 1 (length (y .phones)) && every isPhone (y .phones)
 
-unfoldable pub isSaid : Word → Bool
-isSaid w = isWord (w .text) && isSource (w .source) && every isSyllable (w .syllables)
+unfoldable pub isSaid : ℕ → Word → Bool
+isSaid v w = isWord (w .text) && isSource (w .source) && every (isSyllable v) (w .syllables)

@@ -1,4 +1,5 @@
--- A word put last on a sound sheet with room for it: the sheet is sound, reads as before and then that word, the last word and the last phone are tied to it, and all other items keep their bytes.
+-- A word put last on a sound sheet with room for it: the sheet is sound, has the same version, reads as before and then that word, the last word
+-- and the last phone are tied to it, and all other items keep their bytes.
 -- Assumes nothing.
 use Prim.Native.Nat.{ℕ, _+_, _≤_, _<_}
 use native.Mathlib.Omega.{arith}
@@ -15,16 +16,16 @@ use Rattle.records.specs.Fields.{put16}
 use Rattle.records.specs.Records.{recordAt}
 use Rattle.records.specs.Chain.{All, endOf, all-map, all-append, all-end}
 use Rattle.items_spec.specs.Item.{Item, isItem}
-use Rattle.utterance_spec.specs.Tree.{Word, WordAt, wordsAt, phonesIn, phonesAt, itemsAt, wordAt}
-use Rattle.utterance_spec.specs.Sheet.{at, used, items, isSheetLength, reading}
+use Rattle.utterance_spec.specs.Tree.{Word, putLast, WordAt, wordsAt, phonesIn, phonesAt, itemsAt, Sung, wordAt}
+use Rattle.utterance_spec.specs.Sheet.{at, used, items, version, isSheetLength, reading, page}
 use Rattle.utterance_spec.specs.Sound.{Placed, Sound}
 use Rattle.utterance_spec.specs.Append.{headOr, size, numbered, placeOf, appended, isSaid}
 use Rattle.utterance_spec.specs.Read.{reading-is}
 use Rattle.utterance_spec.specs.Laws.Behind.{all-both, all-from}
 use Rattle.utterance_spec.specs.Laws.Walked.{word-kinds}
 use Rattle.utterance_spec.specs.Laws.Places.{all-phones, all-words, phone-kinds}
-use Rattle.utterance_spec.specs.Laws.Grown.{Grown, back-end, grown-items, grown-once, grown-full, grown-tree, grown-reads, grown-onwards, grown-backwards}
-use Rattle.utterance_spec.specs.Laws.Wrote.{said-parts, said-filled}
+use Rattle.utterance_spec.specs.Laws.Grown.{Grown, back-end, grown-items, grown-once, grown-sung, grown-tree, grown-reads, grown-onwards, grown-backwards}
+use Rattle.utterance_spec.specs.Laws.Wrote.{said-parts}
 use Rattle.utterance_spec.specs.Laws.Bytes.{length-appended, appended-kept, word-record, phone-record, appended-grown, appended-head, appended-old, appended-new}
 
 -- what putting a word last on a sound sheet leaves
@@ -78,7 +79,7 @@ module _ (b : List ℕ) (s : Sound b) where
       let z = ap (λ (i : ℕ). at b i .kind) e in
       absurd (omega arith)
 
-module _ (b : List ℕ) (w : Word) (s : Sound b) (may : isSaid w ≡ true) (room : used b + size w < items b) where
+module _ (b : List ℕ) (w : Word) (s : Sound b) (may : isSaid (version b) w ≡ true) (room : used b + size w < items b) where
   abbrev n : ℕ
   n = used b + 1
 
@@ -99,6 +100,9 @@ module _ (b : List ℕ) (w : Word) (s : Sound b) (may : isSaid w ≡ true) (room
 
   used-c : used c ≡ used b + size w
   used-c = ap (λ (i : Item). i .parent) (g .head)
+
+  version-c : version c ≡ version b
+  version-c = ap (λ (i : Item). i .stress) (g .head)
 
   real : n ≢ 0
   real z = absurd (omega arith)
@@ -145,7 +149,8 @@ module _ (b : List ℕ) (w : Word) (s : Sound b) (may : isSaid w ≡ true) (room
         all = ap (λ (l : List ℕ). length l) its ∙ length-append (itemsAt ws) (from n (size w)) ∙ rw (s .all, length-from n (size w)) (sym used-c);
         once = grown-once (at b) (at c) n (used b + size w) w g real ws (s .tree) each (s .once);
         each = placed;
-        full = grown-full (at b) (at c) n (used b + size w) w g real ws (s .tree) each (s .full) (said-filled (w .syllables) (said-parts w may .2));
+        sung = subst (λ (v : ℕ). Sung (at c) v (ws ++ (placeOf n w ∷ []))) (sym version-c)
+            (grown-sung (at b) (at c) n (used b + size w) w g real ws (s .tree) each (version b) (s .sung) (said-parts (version b) w may .2));
         onwards = grown-onwards (at b) (at c) n (used b + size w) w g real ws (s .tree) each (s .backwards) (s .onwards);
         backwards = grown-backwards (at b) (at c) n (used b + size w) w g real ws (s .tree) each (s .backwards);
       }
@@ -168,5 +173,9 @@ module _ (b : List ℕ) (w : Word) (s : Sound b) (may : isSaid w ≡ true) (room
       }
 
   -- it reads as before, and then the word
-  pub append-reads : reading (appended b w) ≡ reading b ++ (w ∷ [])
-  append-reads = reading-is c (append-law .sound) ∙ append-law .says ∙ ap (λ (l : List Word). l ++ (w ∷ [])) (sym (reading-is b s))
+  reads-c : reading (appended b w) ≡ reading b ++ (w ∷ [])
+  reads-c = reading-is c (append-law .sound) ∙ append-law .says ∙ ap (λ (l : List Word). l ++ (w ∷ [])) (sym (reading-is b s))
+
+  pub append-reads : page (appended b w) ≡ putLast w (page b)
+  unfolding page
+  append-reads = rw (version-c, ap (λ (i : Item). i .mark) (g .head), reads-c)

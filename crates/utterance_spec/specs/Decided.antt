@@ -1,4 +1,4 @@
--- 01, Store and sheet: `isSound` decides whether a sheet is sound.
+-- 01, Store and sheet, and 02, S-9: `isSound` decides whether a sheet is sound.
 -- Assumes nothing.
 use Prim.Native.Nat.{ℕ, zero, suc, _<_}
 use native.Mathlib.Omega.{arith}
@@ -14,14 +14,15 @@ use Rattle.texts.specs.Lists.{every}
 use Rattle.texts.specs.Text.{ascii}
 use Rattle.records.specs.Records.{recordAt}
 use Rattle.records.specs.Chain.{All, Linked, chain, chain-more, chain-linked, distinct, all-map}
+use Rattle.versions.specs.Versions.{isSheetVersion}
 use Rattle.items_spec.specs.Item.{Item, itemOf, isClean, isPhoneItem, isHeadItem, fits, isItem, isHead}
 use Rattle.items_spec.specs.Laws.Fields.{phone-fields, head-fields}
 use Rattle.utterance_spec.specs.Tree.{WordAt, itemsAt, Tree}
-use Rattle.utterance_spec.specs.Sheet.{at, used, items, isSheetLength, after, isParent, isSibling, isFull, isChained, isPlaced, walks, order, isSound}
+use Rattle.utterance_spec.specs.Sheet.{at, used, items, version, isSheetLength, after, isParent, isSibling, isSung, isChained, isPlaced, walks, order, isSound}
 use Rattle.utterance_spec.specs.Sound.{Placed, Sound}
 use Rattle.utterance_spec.specs.Laws.Parsed.{Good, parsed}
 use Rattle.utterance_spec.specs.Laws.Walked.{Leaf, walked}
-use Rattle.utterance_spec.specs.Laws.Chained.{chained, is-chained, full, is-full}
+use Rattle.utterance_spec.specs.Laws.Chained.{chained, is-chained, sung, is-sung}
 
 -- a phone has no children
 phone-leaf : (i : Item) → fits i ≡ true → i .kind ≡ 3 → (i .first ≡ 0) × (i .last ≡ 0)
@@ -35,12 +36,12 @@ pub leaf : (b : List ℕ) (n : ℕ) → isItem (recordAt 64 b n) ≡ true → Le
 unfolding isItem at
 leaf b n h = phone-leaf (itemOf (recordAt 64 b n)) (both-true (isClean (recordAt 64 b n)) (fits (itemOf (recordAt 64 b n))) h .1)
 
--- item 0 is of no kind, and has no sibling
-pub top : (b : List ℕ) → isHead (recordAt 64 b 0) ≡ true → (at b 0 .kind ≡ 0) × (at b 0 .next ≡ 0)
+-- item 0 is of no kind, has no sibling, a known version, and its state is 0
+pub top : (b : List ℕ) → isHead (recordAt 64 b 0) ≡ true → (at b 0 .kind ≡ 0) × (at b 0 .next ≡ 0) × (isSheetVersion (version b) ≡ true) × (at b 0 .mark ≡ 0)
 unfolding isHead at
 top b h =
     let f = head-fields (itemOf (recordAt 64 b 0)) (both-true (isClean (recordAt 64 b 0)) (isHeadItem (itemOf (recordAt 64 b 0))) h .1) in
-    (f .kind, f .next)
+    (f .kind, f .next, f .version, f .mark)
 
 -- what the test of one item of the walk says
 pub placed : (b : List ℕ) (n : ℕ) → isPlaced b n ≡ true → Placed b n × Good (at b) n
@@ -82,7 +83,7 @@ record Tested (b : List ℕ) (xs : List ℕ) : Type 0 where
   linked : Linked (after (at b)) 0 xs
   all : length xs ≡ used b
   each : All (λ (i : ℕ). isPlaced b i ≡ true) xs
-  full : every (isFull (at b)) xs ≡ true
+  sung : every (isSung (at b) (version b)) xs ≡ true
   chained : isChained (at b) 0 xs ≡ true
 
 -- so it is sound if they are the items of a tree
@@ -100,7 +101,7 @@ tested-sound b xs ws size head room h t e =
       all = r .all;
       once = distinct (after (at b)) 0 (itemsAt ws) (r .linked) .1;
       each = each;
-      full = full (at b) ws (t .words) (r .full);
+      sung = sung (at b) (version b) ws (t .words) (r .sung);
       onwards = c .0;
       backwards = c .1;
     }
@@ -109,15 +110,15 @@ tested-sound b xs ws size head room h t e =
 pub sound : (b : List ℕ) → isSound b ≡ true → Sound b
 unfolding isSound order
 sound b h =
-    let c = both-true (isSheetLength (length b) && isHead (recordAt 64 b 0) && ltb (used b) (items b) && isParent (at b) 0 && walks b (used b) 0 && every (isFull (at b)) (order b)) (isChained (at b) 0 (order b)) h in
-    let f = both-true (isSheetLength (length b) && isHead (recordAt 64 b 0) && ltb (used b) (items b) && isParent (at b) 0 && walks b (used b) 0) (every (isFull (at b)) (order b)) (c .0) in
+    let c = both-true (isSheetLength (length b) && isHead (recordAt 64 b 0) && ltb (used b) (items b) && isParent (at b) 0 && walks b (used b) 0 && every (isSung (at b) (version b)) (order b)) (isChained (at b) 0 (order b)) h in
+    let f = both-true (isSheetLength (length b) && isHead (recordAt 64 b 0) && ltb (used b) (items b) && isParent (at b) 0 && walks b (used b) 0) (every (isSung (at b) (version b)) (order b)) (c .0) in
     let w = both-true (isSheetLength (length b) && isHead (recordAt 64 b 0) && ltb (used b) (items b) && isParent (at b) 0) (walks b (used b) 0) (f .0) in
     let p = both-true (isSheetLength (length b) && isHead (recordAt 64 b 0) && ltb (used b) (items b)) (isParent (at b) 0) (w .0) in
     let u = both-true (isSheetLength (length b) && isHead (recordAt 64 b 0)) (ltb (used b) (items b)) (p .0) in
     let d = both-true (isSheetLength (length b)) (isHead (recordAt 64 b 0)) (u .0) in
     let l = walk-linked b (used b) 0 (w .1) in
     let z = top b (d .1) in
-    let r : Tested b (order b) = record { linked = l .0; all = l .1; each = l .2; full = f .1; chained = c .1 } in
+    let r : Tested b (order b) = record { linked = l .0; all = l .1; each = l .2; sung = f .1; chained = c .1 } in
     let t = parsed (at b) (order b) (z .0) (z .1) (p .1) (l .0) (all-map (λ (i : ℕ). isPlaced b i ≡ true) (Good (at b)) (order b) (λ i e. placed b i e .1) (l .2)) in
     tested-sound b (order b) (t .0) (d .0) (d .1) (ltb-true (used b) (items b) (u .1)) r (t .1) (t .2)
 
@@ -138,6 +139,6 @@ is-sound b s =
     let l = linked b s in
     let ws = s .words in
     let w : walks b (used b) 0 ≡ true = subst (λ (n : ℕ). walks b n 0 ≡ true) (s .all) (linked-walk b 0 (itemsAt ws) (l .1) (s .each) (l .2)) in
-    let f = is-full (at b) ws (s .tree .words) (s .full) in
+    let f = is-sung (at b) (version b) ws (s .tree .words) (s .sung) in
     let c = is-chained (at b) ws (s .tree .words) (s .onwards) (s .backwards) in
     rw (s .size, s .head, lt-ltb (used b) (items b) (s .room), l .0, w, order-is b s, f, c)

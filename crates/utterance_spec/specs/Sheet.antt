@@ -1,7 +1,7 @@
--- 01, Store and sheet: the sheet, items of 64 bytes in lent bytes; when it is sound, and what it reads as.
+-- 01, Store and sheet, and 02, S-9: the sheet, items of 64 bytes in lent bytes; when it is sound, and what it reads as.
 -- Assumes nothing.
 use Prim.Native.Nat.{ℕ, zero, suc, _+_, _/_}
-use mathlib.Core.Bool.{Bool, not, _&&_}
+use mathlib.Core.Bool.{Bool, true, not, _&&_}
 use mathlib.Core.List.{List, [], _∷_, map}
 use lib.Dec.{eqb, leb, ltb}
 use lib.ListN.{length}
@@ -9,8 +9,9 @@ use Rattle.texts.specs.Choice.{if_then_else_}
 use Rattle.texts.specs.Lists.{every}
 use Rattle.records.specs.Records.{recordAt}
 use Rattle.records.specs.Chain.{chain}
+use Rattle.versions.specs.Versions.{isStress}
 use Rattle.items_spec.specs.Item.{Item, itemOf, isItem, isHead}
-use Rattle.utterance_spec.specs.Tree.{Word, places, wordAt}
+use Rattle.utterance_spec.specs.Tree.{Word, Page, WordAt, places, wordAt}
 
 -- item n
 unfoldable pub at : List ℕ → ℕ → Item
@@ -23,12 +24,23 @@ used b = at b 0 .parent
 abbrev pub items : List ℕ → ℕ
 items b = length b / 64
 
+-- the sheet's version, byte 1 of item 0 (02, S-9)
+abbrev pub version : List ℕ → ℕ
+version b = at b 0 .stress
+
 unfoldable pub isSheetLength : ℕ → Bool
 isSheetLength n = leb 64 n && leb n 65536
 
 -- the words that a sheet says
 unfoldable pub reading : List ℕ → List Word
 reading b = map (wordAt (at b)) (places (at b) (used b))
+
+-- what is read of a sheet, with the words at these places, and with those that it says
+abbrev pub pageAt : List ℕ → List WordAt → Page
+pageAt b ws = record { version = at b 0 .stress; state = at b 0 .mark; words = map (wordAt (at b)) ws }
+
+unfoldable pub page : List ℕ → Page
+page b = record { version = at b 0 .stress; state = at b 0 .mark; words = reading b }
 
 module _ (S : ℕ → Item) where
   -- the item that comes behind the children of a word, a syllable or a phone
@@ -53,9 +65,9 @@ module _ (S : ℕ → Item) where
   unfoldable pub isSibling : ℕ → Bool
   isSibling i = if eqb (S i .next) 0 then eqb (S (S i .parent) .last) i else eqb (S (S i .next) .parent) (S i .parent) && eqb (S (S i .next) .kind) (S i .kind)
 
-  -- a syllable has a phone
-  unfoldable pub isFull : ℕ → Bool
-  isFull i = not (eqb (S i .kind) 2 && eqb (S i .first) 0)
+  -- a syllable has a stress of version v (02, S-9), and a phone
+  unfoldable pub isSung : ℕ → ℕ → Bool
+  isSung v i = if eqb (S i .kind) 2 then isStress v (S i .stress) && not (eqb (S i .first) 0) else true
 
   -- among items in reading order the phones, behind phone q, are chained both ways
   unfoldable pub isChained : ℕ → List ℕ → Bool
@@ -78,4 +90,4 @@ order b = chain (after (at b)) (used b) 0
 unfoldable pub isSound : List ℕ → Bool
 isSound b =
     isSheetLength (length b) && isHead (recordAt 64 b 0) && ltb (used b) (items b)
-    && isParent (at b) 0 && walks b (used b) 0 && every (isFull (at b)) (order b) && isChained (at b) 0 (order b)
+    && isParent (at b) 0 && walks b (used b) 0 && every (isSung (at b) (version b)) (order b) && isChained (at b) 0 (order b)

@@ -1,13 +1,15 @@
--- 01, Store and sheet, and 02, S-6: the words of a sheet, their syllables and phones: what they say, which items they are, and how these are
+-- 01, Store and sheet, and 02, S-6 and S-9: the words of a sheet, their syllables and phones: what they say, which items they are, and how these are
 -- linked. `S` gives each item.
 -- Assumes nothing.
 use Prim.Native.Nat.{ℕ, _+_, _≤_}
 use mathlib.Core.Path.{_≡_}
+use mathlib.Core.Bool.{true}
 use mathlib.Core.List.{List, [], _∷_, _++_, map}
 use lib.Dec.{eqb}
 use lib.ListN.{length}
 use Rattle.texts.specs.Choice.{if_then_else_}
 use Rattle.records.specs.Chain.{All, Linked, chain, endOf}
+use Rattle.versions.specs.Versions.{isStress}
 use Rattle.items_spec.specs.Item.{Item}
 
 -- what is read: a word with its source and its syllables, each with its stress and its phones
@@ -19,6 +21,16 @@ pub record Word : Type 0 where
   pub text : List ℕ
   pub source : ℕ
   pub syllables : List Syllable
+
+-- what is read of a whole sheet (02, S-9): its version, byte 14 of item 0, which is 0 as yet, and its words
+pub record Page : Type 0 where
+  pub version : ℕ
+  pub state : ℕ
+  pub words : List Word
+
+-- with one word more, the last
+abbrev pub putLast : Word → Page → Page
+putLast w p = record { version = p .version; state = p .state; words = p .words ++ (w ∷ []) }
 
 -- the items it is read from
 pub record SyllableAt : Type 0 where
@@ -55,15 +67,6 @@ abbrev pub itemsAt : List WordAt → List ℕ
 itemsAt [] = []
 itemsAt (w ∷ ws) = w .at ∷ (itemsIn (w .syllables) ++ itemsAt ws)
 
--- each syllable has a phone
-abbrev pub FullIn : List SyllableAt → Type 0
-FullIn [] = Unit {0}
-FullIn (y ∷ ys) = (1 ≤ length (y .phones)) × FullIn ys
-
-abbrev pub Full : List WordAt → Type 0
-Full [] = Unit {0}
-Full (w ∷ ws) = FullIn (w .syllables) × Full ws
-
 module _ (S : ℕ → Item) where
   -- the next sibling among the children of p; from p itself its first child
   unfoldable pub sibling : ℕ → ℕ → ℕ
@@ -95,6 +98,15 @@ module _ (S : ℕ → Item) where
   pub record Tree (ws : List WordAt) : Type 0 where
     pub top : Children 0 (wordsAt ws)
     pub words : Words ws
+
+  -- each syllable of a word has a stress of version v (02, S-9), and a phone
+  abbrev pub SungIn : ℕ → List SyllableAt → Type 0
+  SungIn v [] = Unit {0}
+  SungIn v (y ∷ ys) = (isStress v (S (y .at) .stress) ≡ true) × (1 ≤ length (y .phones)) × SungIn v ys
+
+  abbrev pub Sung : ℕ → List WordAt → Type 0
+  Sung v [] = Unit {0}
+  Sung v (w ∷ ws) = SungIn v (w .syllables) × Sung v ws
 
   -- reading: from item 0's first word, and from a parent's first child, on by next sibling up to 0, at most n at each step
   abbrev pub childrenOf : ℕ → ℕ → List ℕ

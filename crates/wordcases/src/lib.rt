@@ -79,7 +79,7 @@ fn run_split_stress(line: &[u8], regs: &[u8], room: &mut [u8]) -> bool {
     if !given.ok {
         return false;
     }
-    let split = phoneset::split_stress(caseline::argument(room, given, 0));
+    let split = phoneset::split_stress(1, caseline::argument(room, given, 0));
     caseline::agrees(answers::accepted(split.stress as u32, split.bare), line, 3)
 }
 

@@ -14,7 +14,7 @@ pub struct AddEntries {
 impl Call for AddEntries {
     type Input = Input;
     const NAME: &'static str = "add_entries";
-    const SHARE: usize = 15;
+    const SHARE: usize = 11;
     const SHARE_RECORDED: usize = 20;
     const ANSWERS: Rows = TAKEN;
     const REFUSALS: &'static [u32] = &[1, 2, 12, 3, 4, 5, 7, 8];
@@ -50,7 +50,7 @@ impl Call for AddEntries {
         Ok(Told::new(answer, filled.row(), vec![store, filled.spare()]))
     }
 
-    fn has_exact(&self, input: &Input) -> bool {
+    fn is_beyond(&self, input: &Input) -> bool {
         input.scene.has_exact()
     }
 

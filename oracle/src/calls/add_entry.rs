@@ -22,7 +22,7 @@ pub struct AddEntry {
 impl Call for AddEntry {
     type Input = Input;
     const NAME: &'static str = "add_entry";
-    const SHARE: usize = 110;
+    const SHARE: usize = 97;
     const SHARE_RECORDED: usize = 24;
     const ANSWERS: Rows = &["new key", "known key", "exact: new key", "exact: known key"];
     const REFUSALS: &'static [u32] = &[1, 2, 12, 3, 5, 7, 8];
@@ -63,7 +63,7 @@ impl Call for AddEntry {
         }
         spoil(random, &mut given, &self.phones);
         let mut input = Input::new(scene, given);
-        adding::go_on(self.expected(&input).outcome, &mut self.pool, 4);
+        adding::go_on(self.expected(&input).outcome, &mut self.pool, 2);
         let way = random.below(24);
         input.scene = adding::damaged(random, &input.scene, way);
         input
@@ -90,7 +90,7 @@ impl Call for AddEntry {
         Ok(Told::new(Answer::accepted(0, 0), row, vec![store]))
     }
 
-    fn has_exact(&self, input: &Input) -> bool {
+    fn is_beyond(&self, input: &Input) -> bool {
         input.given.exact || input.scene.has_exact()
     }
 

@@ -29,7 +29,7 @@ impl Pool {
         let words = (0..random.between(1, 12)).map(|_| words::accepted(random, &alphabet));
         let mut words: Vec<Vec<u8>> = words.collect();
         let empty = Scene::of(lexicon, stores::new(1, 0));
-        let exact = !random.once_in(4);
+        let exact = !random.once_in(5);
         let kind = random.weighted(&weights_and_calls.map(|(weight, _)| weight));
         let store = match kind {
             0 => {

@@ -13,7 +13,7 @@ pub struct CheckLexicon {
 impl Call for CheckLexicon {
     type Input = Rc<Lexicon>;
     const NAME: &'static str = "check_lexicon";
-    const SHARE: usize = 8;
+    const SHARE: usize = 6;
     const ANSWERS: Rows = &["yes", "no"];
     const REFUSALS: &'static [u32] = &[1];
     const MET: Table = &[ROWS, &[&["words that fall"], DAMAGE]];

@@ -74,7 +74,7 @@ impl Call for EitherOrder {
         Ok(if papers.asked { told } else { told.by_papers() })
     }
 
-    fn has_exact(&self, input: &Input) -> bool {
+    fn is_beyond(&self, input: &Input) -> bool {
         input.one.exact || input.two.exact || input.scene.has_exact()
     }
 

@@ -64,7 +64,7 @@ impl Texts {
 
     /// The same, of which some are refused before a line is looked at.
     pub fn spoiled(&mut self, random: &mut Random) -> Input {
-        let faulty = [16, 64][random.below(2)];
+        let faulty = [24, 96][random.below(2)];
         let mut input = self.next(random, faulty);
         let store = &input.scene.store;
         match random.below(24) {

@@ -14,7 +14,7 @@ pub struct IsSayable {
 impl Call for IsSayable {
     type Input = Input;
     const NAME: &'static str = "is_sayable";
-    const SHARE: usize = 12;
+    const SHARE: usize = 7;
     const SHARE_RECORDED: usize = 17;
     const ANSWERS: Rows = &["yes", "no"];
     const REFUSALS: &'static [u32] = &[1, 3];

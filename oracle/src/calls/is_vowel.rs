@@ -10,7 +10,7 @@ pub struct IsVowel {
 impl Call for IsVowel {
     type Input = Vec<u8>;
     const NAME: &'static str = "is_vowel";
-    const SHARE: usize = 5;
+    const SHARE: usize = 3;
     const SHARE_RECORDED: usize = 6;
     const ANSWERS: Rows = &["vowel", "of the 50, no vowel", "in no table"];
     const LIBRARY: Function = ours::is_vowel;

@@ -19,7 +19,8 @@ use run::{run, Library};
 /// count where the list holds no step.
 #[derive(Clone)]
 pub enum Act {
-    NewSheet,
+    /// A new sheet of any version, known or not.
+    NewSheet(u32),
     AddEntry(Add),
     AddText { text: Vec<u8>, fill: u8, spare: Option<usize> },
     Preview(Vec<u8>),
@@ -30,7 +31,10 @@ pub enum Act {
 impl Shrink for Act {
     fn smaller(&self) -> Vec<Act> {
         match self {
-            Act::NewSheet | Act::Accept => vec![],
+            Act::Accept => vec![],
+            Act::NewSheet(version) => {
+                sheet_shapes::plainer_version(version).into_iter().map(Act::NewSheet).collect()
+            }
             Act::AddEntry(given) => given.smaller().into_iter().map(Act::AddEntry).collect(),
             Act::AddText { text, fill, spare } => {
                 let made = |text| Act::AddText { text, fill: *fill, spare: *spare };
@@ -93,15 +97,26 @@ pub struct Input {
     /// The bytes of store and sheet before they are made new.
     store: Vec<u8>,
     sheet: Vec<u8>,
+    /// The known version of the sheet that the list starts with.
+    version: u8,
     steps: Vec<Step>,
 }
 
-smaller!(Input: steps, sheet by shorter_sheet, store by shorter_store, sections);
+smaller!(
+    Input: steps, sheet by shorter_sheet, store by shorter_store, sections,
+    version by |version: &u8| (1..*version).collect::<Vec<u8>>()
+);
 
 impl Input {
     /// Whether each call gets the spare as the one before left it, the first one a new store.
     fn keeps_spare(&self) -> bool {
         self.steps.iter().any(|step| matches!(step.act, Act::Preview(_) | Act::Accept))
+    }
+
+    /// Whether some sheet is made new in this version.
+    fn has_version(&self, version: u8) -> bool {
+        let is_made = |step: &Step| matches!(step.act, Act::NewSheet(new) if new == version.into());
+        self.version == version || self.steps.iter().any(is_made)
     }
 }
 
@@ -126,7 +141,7 @@ macro_rules! of_call {
 /// The calls of lists, by their answers.
 const CALLS: &[Rows] = &[
     &["calls in all"],
-    of_call!("new_sheet": "new";),
+    of_call!("new_sheet": "version 1" "version 2"; 15),
     of_call!("add_entry": "new key" "known key" "exact: new key" "exact: known key"; 1 3 5 7 8),
     of_call!("add_entries": "lines taken 0" "lines taken 1" "lines taken 2 and more"; 1 2 3 4 5 7 8),
     of_call!("preview_entries": "lines taken 0" "lines taken 1" "lines taken 2 and more"; 1 3 4 5 7 8),
@@ -144,7 +159,7 @@ pub struct Lists {
 impl Call for Lists {
     type Input = Input;
     const NAME: &'static str = "lists of calls";
-    const SHARE: usize = 12;
+    const SHARE: usize = 10;
     const ANSWERS: Rows = &[
         "lists of no call",
         "lists of 1 to 5 calls",
@@ -164,15 +179,15 @@ impl Call for Lists {
     }
 
     fn rule(&self, input: &Input, met: &mut Met) -> Ruling {
-        let log = run(input, &mut Book::new(&input.sections, met))?;
+        let log = run(input, &mut Book::new(&input.sections, input.version, met))?;
         met.all(lengths(input));
         let row = row_of(Self::ANSWERS, &[1, 6, 21], input.steps.len());
         Ok(Told::new(Answer::accepted(0, 0), row, vec![log]))
     }
 
-    fn has_exact(&self, input: &Input) -> bool {
+    fn is_beyond(&self, input: &Input) -> bool {
         let is_exact = |step: &Step| matches!(step.act, Act::AddEntry(Add { exact: true, .. }));
-        input.steps.iter().any(is_exact)
+        input.has_version(2) || input.steps.iter().any(is_exact)
     }
 
     /// The log, which is all that is compared.
@@ -193,7 +208,7 @@ impl Call for Lists {
             notation::line("    lex", &lexicon.sections.parts(), &[], &[]),
             notation::line("    lts", &trees.sections.parts(), &[], &[]),
             format!("  0 new_store {}", notation::bytes(&input.store)),
-            format!("  0 new_sheet {}", notation::bytes(&input.sheet)),
+            format!("  0 new_sheet {} {}", notation::bytes(&input.sheet), input.version),
         ];
         let keeps = input.keeps_spare();
         if keeps {
@@ -214,7 +229,7 @@ impl Call for Lists {
 /// A call as a line, without what it shares with the others, the spare among it where the list keeps one.
 fn shown(act: &Act, keeps: bool) -> String {
     match act {
-        Act::NewSheet => "new_sheet".into(),
+        Act::NewSheet(version) => format!("new_sheet {version}"),
         Act::AddEntry(given) => notation::line("add_entry", &given.parts(), &[], &[]),
         Act::AddText { text, .. } if keeps => format!("add_entries {}", notation::bytes(text)),
         Act::AddText { text, fill, spare } => {
@@ -228,8 +243,13 @@ fn shown(act: &Act, keeps: bool) -> String {
 }
 
 rows! { ROWS:
-    /// How long the store and the sheet of a list are, and which spare it has.
-    lengths(input: &Input) [
+    /// How long the store and the sheet of a list are, which spare it has, and which versions.
+    lengths(input: &Input) {
+        let [first, second] = sheets::VERSIONS.map(|version| input.has_version(version));
+    } [
+        "list of version 1 alone" => !second,
+        "list of version 2 alone" => !first,
+        "list of both versions" => first && second,
         "list that keeps its spare" => input.keeps_spare(),
         "list with any spare each time" => !input.keeps_spare(),
         "sheet of 64 bytes" => input.sheet.len() == ITEM,

@@ -26,7 +26,7 @@ pub struct Lookup {
 impl Call for Lookup {
     type Input = Input;
     const NAME: &'static str = "lookup";
-    const SHARE: usize = 103;
+    const SHARE: usize = 88;
     const SHARE_RECORDED: usize = 40;
     const ANSWERS: Rows = &["none", "runtime", "addenda", "compiled", "runtime, exact"];
     const REFUSALS: &'static [u32] = &[1, 2, 3, 6, 7, 9];
@@ -49,12 +49,15 @@ impl Call for Lookup {
     }
 
     fn random(&mut self, random: &mut Random) -> Input {
-        let (scene, words) = self.scene.next(|| (scene(random, &self.phones), WORDS));
+        let (scene, words) = self.scene.next(|| {
+            let exact = !random.once_in(4);
+            (scene(random, &self.phones, exact), WORDS)
+        });
         let scene = match random.once_in(12) {
             true => scene.with_store(store_shapes::damaged(random, &scene.store)),
             false => scene.clone(),
         };
-        let wanted = match random.once_in(8) {
+        let wanted = match random.once_in(12) {
             true => Wanted::new(words::random(random, b"abAB'_"), words::tag(random)),
             false => wanted(random, &scene, words),
         };
@@ -91,7 +94,7 @@ impl Call for Lookup {
         Ok(Told::new(Answer::accepted(kind, count), row, vec![phones]))
     }
 
-    fn has_exact(&self, input: &Input) -> bool {
+    fn is_beyond(&self, input: &Input) -> bool {
         input.scene.has_exact()
     }
 
@@ -170,20 +173,20 @@ fn to_record(random: &mut Random, scene: &Rc<Scene>, words: &[Vec<u8>]) -> Input
 pub fn wanted(random: &mut Random, scene: &Scene, words: &[Vec<u8>]) -> Wanted {
     let entries = scene.entries.iter().flatten().map(|placed| &placed.entry);
     let exact: Vec<&Entry> = entries.filter(|entry| entry.exact).collect();
-    if exact.is_empty() || random.once_in(4) {
+    if exact.is_empty() || random.once_in(6) {
         return Wanted::new(words::near(random, words), words::tag(random));
     }
     let Entry { word, tag, .. } = exact[random.below(exact.len())];
-    let tag = if random.once_in(2) { words::tag(random) } else { vec![*tag] };
+    let tag = if random.once_in(3) { words::tag(random) } else { vec![*tag] };
     let word = if random.once_in(4) { words::recased(random, word) } else { word.clone() };
     Wanted::new(word, tag)
 }
 
-/// A lexicon with a store, one in five of them broken in some way, and words around both.
-pub fn scene(random: &mut Random, phones: &Phones) -> (Rc<Scene>, Vec<Vec<u8>>) {
+/// A lexicon with a store, one in five of them broken in some way, and words around both; some entries exact if they
+/// may be.
+pub fn scene(random: &mut Random, phones: &Phones, exact: bool) -> (Rc<Scene>, Vec<Vec<u8>>) {
     let Shape { lexicon, mut words } = lexicon_shapes::whole(random, phones);
     let empty = Scene::of(lexicon, stores::new(1, 0));
-    let exact = !random.once_in(4);
     let store = store_shapes::random(random, &empty, &words, phones, exact);
     let scene = match random.once_in(5) {
         true => Scene::of(lexicon_shapes::broken(random, &empty.lexicon), store),

@@ -11,7 +11,7 @@ pub struct NewStore;
 impl Call for NewStore {
     type Input = Input;
     const NAME: &'static str = "new_store";
-    const SHARE: usize = 2;
+    const SHARE: usize = 1;
     const ANSWERS: Rows = &["new"];
     const REFUSALS: &'static [u32] = &[2];
     const MET: Table = &[ROWS];

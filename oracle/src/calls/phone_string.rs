@@ -14,7 +14,7 @@ pub struct PhoneString {
 impl Call for PhoneString {
     type Input = Input;
     const NAME: &'static str = "phone_string";
-    const SHARE: usize = 10;
+    const SHARE: usize = 9;
     const SHARE_RECORDED: usize = 12;
     const ANSWERS: Rows = &["no bytes", "bytes 1 to 20", "bytes 21 and more"];
     const REFUSALS: &'static [u32] = &[2, 9];
@@ -36,14 +36,16 @@ impl Call for PhoneString {
             for phone in ["", "x", "abcdefghijklmno"];
             let syllable = format!("0{}", format!(" {phone}").repeat(sheets::LARGEST / ITEM - 3));
             let placed = sheet_edges::in_order(&[sheet_edges::word("w", 1, &[&syllable])]);
-            [Size::Exact, Size::Short(1)].map(|size| input(&sheet_edges::sheet(&placed, 0, 0), size))
+            for version in sheets::VERSIONS;
+            let sheet = sheet_edges::sheet(version, &placed, 0, 0);
+            [Size::Exact, Size::Short(1)].map(|size| input(&sheet, size))
         };
         altered.chain(limits).chain(full).collect()
     }
 
     fn random(&mut self, random: &mut Random) -> Input {
-        let unused = random.below(6);
-        let mut sheet = sheet_shapes::random(random, &self.phones, unused);
+        let (version, unused) = (sheet_shapes::version(random), random.below(6));
+        let mut sheet = sheet_shapes::random(random, &self.phones, version, unused);
         if random.once_in(4) {
             sheet = sheet_shapes::damaged(random, &sheet);
         }
@@ -64,6 +66,10 @@ impl Call for PhoneString {
         Ok(Told::new(Answer::accepted(0, text.len()), row, vec![text]))
     }
 
+    fn is_beyond(&self, input: &Input) -> bool {
+        sheets::version(&input.sheet) == 2
+    }
+
     fn lent<'a>(&self, input: &'a Input) -> Vec<Part<'a>> {
         let sheet = Part::read("the sheet", Form::Sheet, &input.sheet);
         vec![sheet, Part::output(Form::Bytes, input.room)]
@@ -72,8 +78,8 @@ impl Call for PhoneString {
     fn record(&self, random: &mut Random, cases: usize) -> Vec<String> {
         let mut inputs = vec![];
         while inputs.len() < cases {
-            let unused = random.below(2);
-            let mut sheet = sheet_shapes::random(random, &self.phones, unused);
+            let (version, unused) = (1 + u8::from(random.once_in(3)), random.below(2));
+            let mut sheet = sheet_shapes::random(random, &self.phones, version, unused);
             // small ones
             if sheet.len() <= 14 * ITEM {
                 let from = sheets::unused(&sheet);

@@ -14,7 +14,7 @@ pub struct Predict {
 impl Call for Predict {
     type Input = Input;
     const NAME: &'static str = "predict";
-    const SHARE: usize = 30;
+    const SHARE: usize = 31;
     const SHARE_RECORDED: usize = 38;
     const ANSWERS: Rows = &["phones 0", "phones 1 to 5", "phones 6 to 47", "phones 48 to 94"];
     const REFUSALS: &'static [u32] = &[1, 3, 6, 9];

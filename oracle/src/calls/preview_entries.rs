@@ -15,7 +15,7 @@ pub struct PreviewEntries {
 impl Call for PreviewEntries {
     type Input = Input;
     const NAME: &'static str = "preview_entries";
-    const SHARE: usize = 56;
+    const SHARE: usize = 54;
     const SHARE_RECORDED: usize = 8;
     const ANSWERS: Rows = TAKEN;
     const REFUSALS: &'static [u32] = &[1, 2, 3, 4, 5, 7, 8];
@@ -48,7 +48,7 @@ impl Call for PreviewEntries {
         Ok(Told::new(answer, filled.row(), vec![filled.spare()]))
     }
 
-    fn has_exact(&self, input: &Input) -> bool {
+    fn is_beyond(&self, input: &Input) -> bool {
         input.scene.has_exact()
     }
 

@@ -19,7 +19,7 @@ pub struct ReadSettings;
 impl Call for ReadSettings {
     type Input = Input;
     const NAME: &'static str = "read_settings";
-    const SHARE: usize = 37;
+    const SHARE: usize = 35;
     const ANSWERS: Rows = &["two settings and the rack's", "three settings and the rack's"];
     const REFUSALS: &'static [u32] = &[2, 15, 16, 17];
     const MET: Table = &[

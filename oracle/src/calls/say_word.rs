@@ -7,9 +7,12 @@ mod short;
 use crate::calls::{lookup, phone_string};
 use crate::prelude::*;
 use crate::spoken::Word;
-use rule::{bare, origin};
+use rule::{bare, digits_of, origin};
 
 input!(sheet: Vec<u8> => sheet_shapes::smaller, scene: Rc<Scene>, trees: Rc<Trees>, wanted: Wanted);
+
+/// How many words more are tried on sections that are refused.
+const FEW: usize = 4;
 
 /// Sections, with the sheet as the words before have left it, and words to try on them.
 struct Sources {
@@ -26,23 +29,26 @@ pub struct SayWord {
 impl Call for SayWord {
     type Input = Input;
     const NAME: &'static str = "say_word";
-    const SHARE: usize = 53;
+    const SHARE: usize = 83;
     const SHARE_RECORDED: usize = 40;
     const ANSWERS: Rows = &["runtime", "runtime, exact", "addenda", "compiled", "letters"];
     const REFUSALS: &'static [u32] = &[1, 2, 3, 6, 7, 9];
     const MET: Table = &[
+        stresses::ROWS,
         rule::ROWS,
         cells::PHONES,
         words::WORD,
         &[
             &["tag empty", "tag 'nil'", "tag of more bytes"],
             &["sheet without words", "sheet in another order than its items"],
+            &["sheet with a stress 50", "sheet of version 2 with a phone that ends in 2"],
             &["sheet with a runtime word", "sheet with an addenda word"],
             &["sheet with a compiled word", "sheet with a word by letters"],
             &["sheet of 65,536 bytes", "bytes behind the last whole item"],
             &["anything in unused items"],
             &["6: compiled entry", "6: letter tree"],
             &["store whose count is the largest"],
+            &["accepted in version 1 without exact entries"],
         ],
         places::ROWS,
         places::UNTOLD,
@@ -58,7 +64,8 @@ impl Call for SayWord {
 
     fn random(&mut self, random: &mut Random) -> Input {
         let Sources { input, words } = self.sources.next(|| {
-            let (scene, words) = lookup::scene(random, &self.phones);
+            let exact = random.once_in(2);
+            let (scene, words) = lookup::scene(random, &self.phones, exact);
             let input = without_word(scene, tree_shapes::random(random));
             (Sources { input, words }, lookup::WORDS)
         });
@@ -70,19 +77,13 @@ impl Call for SayWord {
         };
         let mut input = Input { wanted, ..input.clone() };
         if input.sheet.is_empty() || random.once_in(2) {
-            let need = on_any_sheet(&input).map_or(5, |word| word.items());
-            let unused = match random.weighted(&[6, 5, 4, 2, 1]) {
-                0 => need + random.below(20),
-                1 => need,
-                2 => need - 1,
-                3 => random.below(need),
-                _ => random.between(need, 1_023),
-            };
-            input.sheet = sheet_shapes::random(random, &self.phones, unused);
+            input.sheet = self.sheet(random, &input);
         }
         if let Ok(mut outcome) = self.expected(&input).outcome {
-            // a full sheet is left for another
-            self.sources.now().input.sheet = match outcome.answer.refusal {
+            // sections without their form serve few words more; a full sheet is left for another
+            let refusal = outcome.answer.refusal;
+            self.sources.serve_at_most(if refusal == 1 { FEW } else { lookup::WORDS });
+            self.sources.now().input.sheet = match refusal {
                 9 => vec![],
                 _ => outcome.written.remove(0),
             };
@@ -111,9 +112,15 @@ impl Call for SayWord {
             .map_err(|refusal| Stop::RefusedBeside(refusal, 0))?;
         met.all(rule::stopped(&origin, given));
         met.all(rule::silent(&origin));
-        met.all(rule::spoken(&origin, &word));
-        met.all(rule::digits(&origin, &word));
-        met.all(cells::of_phones(&bare(&origin)));
+        let version = sheets::version(&input.sheet);
+        let digits = digits_of(version, &origin, &word);
+        let whole = version == 1 && !input.scene.has_exact();
+        met.add("accepted in version 1 without exact entries", whole);
+        met.all(stresses::by_version(version, &origin.phones, &word));
+        met.all(stresses::in_version_2(version, &digits));
+        met.all(rule::spoken(version, &origin, &word));
+        met.all(rule::digits(version, &origin, &digits));
+        met.all(cells::of_phones(&bare(version, &origin)));
         met.all(rule::added(input, &word, &before));
         met.shared(input.wanted.met());
         met.shared(sheet_edges::features(&input.sheet, &before));
@@ -122,8 +129,8 @@ impl Call for SayWord {
         Ok(Told::new(Answer::accepted(0, 0).and(place), origin.row, vec![after]))
     }
 
-    fn has_exact(&self, input: &Input) -> bool {
-        input.scene.has_exact()
+    fn is_beyond(&self, input: &Input) -> bool {
+        input.scene.has_exact() || sheets::version(&input.sheet) == 2
     }
 
     fn lent<'a>(&self, input: &'a Input) -> Vec<Part<'a>> {
@@ -157,19 +164,32 @@ impl Call for SayWord {
     }
 }
 
-/// The word by the original, with the phones that the driver finds by 01's rule.
+/// The word by the original, with the phones that the driver finds by 01's rule, and the stress by 02's.
 fn said(input: &Input, origin: &lookup::Origin) -> Result<Word, String> {
-    let Input { scene, trees, wanted, .. } = input;
-    let mut said = scene.asked_for(&wanted.word, |original| {
-        spoken::say(original, trees.original(), std::slice::from_ref(wanted))
-    })?;
+    let Input { sheet, scene, trees, wanted } = input;
+    let version = sheets::version(sheet);
+    let words = std::slice::from_ref(wanted);
+    let mut said = match version == 2 && origin.phones.iter().any(|phone| phone.ends_with(b"2")) {
+        false => scene.asked_for(&wanted.word, |original| {
+            spoken::say(original, trees.original(), words)
+        })?,
+        true => stresses::of_both(|digit| {
+            let trees = trees.with_digit(digit).original();
+            scene.asked_with(digit, &wanted.word, |original| spoken::say(original, trees, words))
+        })?,
+    };
     let word = said.words.pop().ok_or("the original says no word")?;
     let phones: Vec<&[u8]> = word.phones().map(|phone| &phone[..]).collect();
     if phones.join(&b" "[..]) != said.phone_string.as_bytes() {
         return Err("the original's phone string has other phones than its word".into());
     }
-    if phones != bare(origin) || word.text != wanted.word || !said.words.is_empty() {
+    if phones != bare(version, origin) || word.text != wanted.word || !said.words.is_empty() {
         return Err("the original says another word than 01's rule does".into());
+    }
+    let digits = digits_of(version, origin, &word);
+    let stresses = digits.iter().map(|own| *own.last().unwrap_or(&b'0'));
+    if !word.syllables.iter().map(|syllable| syllable.stress).eq(stresses) {
+        return Err("the original shows another stress than the last digit of its syllable".into());
     }
     if word.source != origin.source() {
         return Err(format!("the original shows another source than {}", origin.row));
@@ -177,11 +197,17 @@ fn said(input: &Input, origin: &lookup::Origin) -> Result<Word, String> {
     Ok(word)
 }
 
-/// The word by the original, if no refusal comes before its items are counted.
-fn on_any_sheet(input: &Input) -> Option<Word> {
-    let input = Input { sheet: vec![0; ITEM], ..input.clone() };
+/// The word by the original on any sheet of a version, if no refusal comes before its items are counted.
+fn on_any_sheet(input: &Input, version: u8) -> Option<Word> {
+    let input = Input { sheet: sheets::new(&[0; ITEM], version), ..input.clone() };
     let origin = origin(&input, &mut Met::default()).ok()?;
     said(&input, &origin).ok()
+}
+
+/// The version of a sheet: more often 1 where the original can be asked as a whole then.
+fn version(random: &mut Random, scene: &Scene) -> u8 {
+    let weights = if scene.has_exact() { [1, 5] } else { [7, 3] };
+    sheets::VERSIONS[random.weighted(&weights)]
 }
 
 /// Sections to say words with, before there is a sheet or a word.
@@ -190,8 +216,22 @@ fn without_word(scene: Rc<Scene>, trees: Trees) -> Input {
 }
 
 impl SayWord {
+    /// A sheet about as long as a word needs it.
+    fn sheet(&self, random: &mut Random, input: &Input) -> Vec<u8> {
+        let version = version(random, &input.scene);
+        let need = on_any_sheet(input, version).map_or(5, |word| word.items());
+        let unused = match random.weighted(&[9, 6, 2, 1, 1]) {
+            0 => need + random.below(20),
+            1 => need,
+            2 => need - 1,
+            3 => random.below(need),
+            _ => random.between(need, 1_023),
+        };
+        sheet_shapes::random(random, &self.phones, version, unused)
+    }
+
     /// Words to say on one sheet, at most so many, with entries that may change between them, exact ones too. The last has a
-    /// sheet that is large enough for all of them; the first finds it new.
+    /// sheet that is large enough for all of them; the first finds it new, of one version or the other.
     fn utterance(
         &self,
         random: &mut Random,
@@ -200,6 +240,7 @@ impl SayWord {
         exact: bool,
     ) -> Vec<Input> {
         let (mut input, words) = (sources.input.clone(), &sources.words);
+        let version = 1 + u8::from(random.once_in(3));
         let (mut inputs, mut need) = (vec![], 0);
         let count = random.between(1, most);
         while inputs.len() < count {
@@ -217,7 +258,8 @@ impl SayWord {
             input.wanted = Wanted::new(word, words::tag(random));
             // few long ones
             let longest = if random.once_in(30) { 40 } else { 12 };
-            if let Some(word) = on_any_sheet(&input).filter(|word| word.items() <= longest) {
+            let said = on_any_sheet(&input, version);
+            if let Some(word) = said.filter(|word| word.items() <= longest) {
                 need += word.items();
                 inputs.push(input.clone());
             }
@@ -225,7 +267,7 @@ impl SayWord {
         let items = 1 + need + random.below(3);
         let more = random.below(ITEM) * random.below(2);
         let bytes = vec![random.byte(); ITEM * items + more];
-        inputs[0].sheet = sheets::new(&bytes);
+        inputs[0].sheet = sheets::new(&bytes, version);
         inputs
     }
 

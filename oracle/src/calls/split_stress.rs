@@ -10,7 +10,7 @@ pub struct SplitStress {
 impl Call for SplitStress {
     type Input = Vec<u8>;
     const NAME: &'static str = "split_stress";
-    const SHARE: usize = 5;
+    const SHARE: usize = 3;
     const SHARE_RECORDED: usize = 6;
     const ANSWERS: Rows = &["stress 0", "stress 1", "no stress"];
     const MET: Table = &[ROWS];

@@ -14,7 +14,7 @@ pub struct Syllabify {
 impl Call for Syllabify {
     type Input = Input;
     const NAME: &'static str = "syllabify";
-    const SHARE: usize = 18;
+    const SHARE: usize = 11;
     const SHARE_RECORDED: usize = 33;
     const ANSWERS: Rows =
         &["marks 0", "one syllable", "2 syllables", "3 to 6 syllables", "7 syllables and more"];
@@ -23,7 +23,7 @@ impl Call for Syllabify {
     const LIBRARY: Function = ours::syllabify;
 
     fn short(&self) -> Vec<Input> {
-        let lists = short_lists(&self.phones.names).into_iter();
+        let lists = short_lists(self.phones.names).into_iter();
         let short = lists.map(|list| input(List::of(&list), Size::More(list.len() % 2)));
         edges().into_iter().chain(short).collect()
     }
@@ -78,7 +78,7 @@ impl Call for Syllabify {
         let accepted = |outcome: Outcome| outcome.answer.refusal == 0;
         inputs.retain(|input| self.expected(input).outcome.is_ok_and(accepted));
         // a part of the short lists, taken at even steps
-        let short = short_lists(&self.phones.names);
+        let short = short_lists(self.phones.names);
         let step = short.len() / (cases / 4).max(1);
         let some = short.iter().step_by(step.max(1));
         inputs.extend(some.map(|list| input(List::of(list), Size::Exact)));

@@ -12,7 +12,7 @@ pub struct TwoSteps {
 impl Call for TwoSteps {
     type Input = Input;
     const NAME: &'static str = "the two steps";
-    const SHARE: usize = 6;
+    const SHARE: usize = 5;
     const ANSWERS: Rows = TAKEN;
     const REFUSALS: &'static [u32] = &[1, 2, 3, 4, 5, 7, 8, 12];
     const MET: Table = &[rule::NUMBERS, store_edges::RAISED, store_edges::EXACT];
@@ -45,7 +45,7 @@ impl Call for TwoSteps {
         Ok(Told::new(answer, filled.row(), vec![store, filled.spare()]))
     }
 
-    fn has_exact(&self, input: &Input) -> bool {
+    fn is_beyond(&self, input: &Input) -> bool {
         input.scene.has_exact()
     }
 

@@ -24,7 +24,7 @@ pub struct WriteSetting;
 impl Call for WriteSetting {
     type Input = Input;
     const NAME: &'static str = "write_setting";
-    const SHARE: usize = 56;
+    const SHARE: usize = 51;
     const ANSWERS: Rows = &["pitch", "stretch", "level"];
     const REFUSALS: &'static [u32] = &[2, 15, 16, 17];
     const MET: Table = &[

@@ -1,7 +1,11 @@
-//! Sections built by hand, a word that is looked up, a store with another count, and a sheet as one line of text.
+//! The versions of a sheet, sections built by hand, a word that is looked up, a store with another count, and a sheet as
+//! one line of text.
 #![allow(dead_code)] // each test file takes what it needs
 
-use pronouncer::{Letters, Lexicon, Sheet, Source, Store, LIST_BYTES};
+use pronouncer::{Letters, Lexicon, Sheet, SheetVersion, Source, Store, LIST_BYTES};
+
+/// Every version of a sheet.
+pub const VERSIONS: [SheetVersion; 2] = [SheetVersion::V1, SheetVersion::V2];
 
 /// lex.phones or lts.phones.
 pub fn phone_table(phones: &[&str]) -> Vec<u8> {

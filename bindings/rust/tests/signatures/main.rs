@@ -7,7 +7,7 @@ mod declared;
 use declared::{
     differences, fields_in_c, fields_in_rust, in_c, in_rattle, in_rust, Function, ANSWERS,
 };
-use pronouncer::{Refusal, Setting, Source, WordSource};
+use pronouncer::{Refusal, Setting, SheetVersion, Source, WordSource};
 use std::fs;
 use std::path::Path;
 
@@ -91,6 +91,8 @@ fn altered(text: &str, from: &str, to: &str) -> String {
     text.replacen(from, to, 1)
 }
 
+const SHEET_AND_VERSION: &str = "uint8_t *sheet, size_t sheet_len, uint32_t version";
+
 /// Alterations of the header, each with words of what must be told.
 const HEADER_ALTERED: &[(&str, &str, &str)] = &[
     ("const uint8_t *data, size_t data_len);", "const uint8_t *data);", "data has no length"),
@@ -121,10 +123,14 @@ const HEADER_ALTERED: &[(&str, &str, &str)] = &[
         "the header has",
     ),
     (
-        "uint8_t *sheet, size_t sheet_len);",
-        "size_t sheet_len, uint8_t *sheet);",
+        SHEET_AND_VERSION,
+        "size_t sheet_len, uint8_t *sheet, uint32_t version",
         "no pointer before it",
     ),
+    (SHEET_AND_VERSION, "uint32_t version, uint8_t *sheet, size_t sheet_len", "the header has"),
+    (SHEET_AND_VERSION, "uint8_t *sheet, size_t sheet_len, int32_t version", "the header has"),
+    (SHEET_AND_VERSION, "uint8_t *sheet, size_t sheet_len, uint16_t version", "no number"),
+    (SHEET_AND_VERSION, "uint8_t *sheet, size_t sheet_len", "the header has"),
     ("size_t phone_len", "int phone_len", "no part of a slice"),
     (
         "struct pronouncer_answer pronouncer_new_store",
@@ -141,7 +147,7 @@ const HEADER_ALTERED: &[(&str, &str, &str)] = &[
         "struct pronouncer_answer pronouncer_read_settings",
         "the header has",
     ),
-    ("uint32_t version", "uint16_t version", "no number"),
+    ("uint32_t version,\n    float show", "uint16_t version,\n    float show", "no number"),
     ("uint32_t version,\n    float show", "float show,\n    uint32_t version", "the header has"),
     ("float show", "double show", "no number"),
     ("float show", "uint32_t show", "the header has"),
@@ -219,6 +225,13 @@ const BINDING_ALTERED: &[(&str, &str, &str)] = &[
     ("store_len: usize) -> Answer", "store_len: usize) -> u32", "the binding has"),
     ("store_len: usize) -> Answer", "store_len: usize)", "answers nothing"),
     ("pronouncer_new_sheet(", "pronouncer_newer_sheet(", "the binding lacks pronouncer_new_sheet"),
+    ("sheet_len: usize, version: u32", "sheet_len: usize", "the binding has"),
+    ("sheet_len: usize, version: u32", "sheet_len: usize, version: u8", "no number"),
+    (
+        "sheet: *mut u8, sheet_len: usize, version: u32",
+        "version: u32, sheet: *mut u8, sheet_len: usize",
+        "the binding has",
+    ),
     (IS_VOWEL, "", "the binding lacks pronouncer_is_vowel"),
     ("pronouncer_split_stress(", "pronouncer_is_vowel(", "has pronouncer_is_vowel twice"),
 ];
@@ -261,8 +274,11 @@ fn an_altered_source_is_told() {
         ("version: u32, show: f32", "version: u32, show: u32"),
         ("version: u32, show: f32", "show: f32, version: u32"),
         ("fn pronouncer_new_sheet(", "fn pronouncer_next_sheet("),
+        ("sheet: &mut [u8], version: u32", "sheet: &mut [u8]"),
+        ("sheet: &mut [u8], version: u32", "sheet: &mut [u8], version: u64"),
+        ("sheet: &mut [u8], version: u32", "version: u32, sheet: &mut [u8]"),
         (
-            "// a sheet\n",
+            "// a sheet, a version\n",
             "#[no_mangle]\npub extern \"C\" fn pronouncer_close(sheet: &mut [u8]) -> Answer {}\n",
         ),
     ];
@@ -332,7 +348,12 @@ fn same_number(kind: &str, case: &str, number: u32) {
 
 /// Sees that a case of an enum has this number in the header.
 fn same_in_header(case: &str, number: u32) {
-    let row = format!("    PRONOUNCER_{} = {number}", constant(case));
+    is_in_header(&constant(case), number);
+}
+
+/// Sees that a constant of an enum has this number in the header.
+fn is_in_header(constant: &str, number: u32) {
+    let row = format!("    PRONOUNCER_{constant} = {number}");
     let lines = header();
     let mut values = lines.lines().map(|line| line.split(['/', ',']).next().unwrap_or(line));
     assert!(values.any(|line| line.trim_end() == row), "the header lacks {row}");
@@ -368,6 +389,16 @@ fn numbers_are_the_sources() {
     for (setting, case) in [(Setting::Whole(0), "Whole"), (Setting::Real(0.0), "Real")] {
         same_in_header(case, setting.kind());
     }
+}
+
+#[test]
+fn versions_of_a_sheet_are_the_headers() {
+    let versions = [(SheetVersion::V1, 1), (SheetVersion::V2, 2)];
+    for (version, number) in versions {
+        assert_eq!(version.number(), number);
+        is_in_header(&format!("SHEET_{version}"), number);
+    }
+    assert_eq!(header().matches("    PRONOUNCER_SHEET_").count(), versions.len());
 }
 
 #[test]

@@ -111,6 +111,13 @@ impl From<&Summary> for Json {
         let deepest = summary.deepest.map(|(nodes, letter)| {
             Json::Object(vec![("nodes", nodes.into()), ("letter", letter.into())])
         });
+        let sheets = summary.sheets().map(|sheets| {
+            Json::Object(vec![
+                ("suits", sheets.versions().iter().copied().collect()),
+                ("entries", sheets.entries.into()),
+                ("leaves", sheets.leaves.into()),
+            ])
+        });
         Json::Object(vec![
             ("entries", summary.entries.into()),
             ("words", summary.words.into()),
@@ -119,6 +126,7 @@ impl From<&Summary> for Json {
             ("deepest_tree", deepest.into()),
             ("lex_phones_never_used", unused(0)),
             ("lts_phones_never_used", unused(1)),
+            ("sheet_versions", sheets.into()),
         ])
     }
 }

@@ -10,6 +10,7 @@ mod json;
 mod machines;
 mod phones;
 mod report;
+mod stress;
 mod text;
 mod trees;
 
@@ -36,6 +37,8 @@ eight sections lex.phones, lex.index, lex.data, lts.phones, lts.index, lts.model
 file of their checksums that tables/make writes: then a section with a changed bit is told, too.
 
 A warning tells of a phone that is none of the 50, and of what uses it; the tables are still fit.
+
+Tables without secondary stress, a 2 behind a vowel, suit sheets of versions 1 and 2, others those of version 2 only.
 
   --json      an array with an object for each FOLDER, for scripts
   --help      this text

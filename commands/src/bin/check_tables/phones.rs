@@ -1,10 +1,11 @@
-//! The phones of both tables: which of them are none of the 50, and which nobody uses.
+//! The phones of both tables: which of them are none of the 50, which nobody uses, and who uses a secondary stress.
 
 use commands::numbers::u32_at;
-use pronouncer::{split_stress, Lexicon, PhoneList, Refusal, Store, CELL_BYTES, SLOT_BYTES};
+use pronouncer::{Lexicon, PhoneList, Refusal, Store, CELL_BYTES, SLOT_BYTES};
 
 use crate::entries::{self, Entry};
 use crate::report::{Detail, Place, Report, User, Warning};
+use crate::stress;
 use crate::trees::Leaf;
 
 /// The leaf of a letter that is not said. Any other has one phone, or two with a "-" between them.
@@ -30,6 +31,15 @@ impl Uses<'_> {
             Uses::Leaves(leaves) => leaves.iter().for_each(|leaf| used[leaf.phone] = true),
         }
         used
+    }
+
+    /// How many use a number that is marked.
+    fn count(&self, marked: &[bool; 256]) -> usize {
+        let has = |entry: &Entry| entry.numbers.iter().any(|&number| marked[usize::from(number)]);
+        match self {
+            Uses::Entries(lexicon) => entries::all(lexicon).filter(has).count(),
+            Uses::Leaves(leaves) => leaves.iter().filter(|leaf| marked[leaf.phone]).count(),
+        }
     }
 
     /// Who uses a number.
@@ -85,7 +95,7 @@ fn table(section: &[u8]) -> Vec<Phone<'_>> {
 /// Whether a phone without its stress is one of the 50: the library takes an entry that has it, though lex.phones lists
 /// nothing.
 fn is_known(phone: &str) -> bool {
-    let (bare, _) = split_stress(phone);
+    let bare = stress::bare(phone);
     let (mut slots, mut cell) = ([0; 2 * SLOT_BYTES], [0; CELL_BYTES]);
     cell[0] = bare.len() as u8;
     cell[1..=bare.len()].copy_from_slice(bare.as_bytes());
@@ -105,8 +115,8 @@ fn parts<'a>(name: &str, text: &'a str) -> Vec<&'a str> {
     }
 }
 
-/// Tells which phones of a table that has its form are none of the 50, and keeps those that nobody uses. `uses` is none
-/// where a fault is in the way.
+/// Tells which phones of a table that has its form are none of the 50. Keeps those that nobody uses, and how many use a
+/// secondary stress. `uses` is none where a fault is in the way.
 pub fn check(name: &'static str, section: &[u8], uses: Option<Uses>, report: &mut Report) {
     let phones = table(section);
     for (number, phone) in phones.iter().enumerate() {
@@ -117,7 +127,12 @@ pub fn check(name: &'static str, section: &[u8], uses: Option<Uses>, report: &mu
             }
         }
     }
+    let mut secondary = [false; 256];
+    for (mark, phone) in secondary.iter_mut().zip(&phones) {
+        *mark = parts(name, phone.text).into_iter().any(stress::is_secondary);
+    }
     let place = usize::from(name != "lex.phones");
+    report.summary.secondary[place] = uses.map(|uses| uses.count(&secondary));
     report.summary.unused[place] = uses.map(|uses| {
         let unused = phones.iter().zip(uses.used()).filter(|(_, used)| !used);
         unused.map(|(phone, _)| phone.text.to_string()).collect()

@@ -140,6 +140,34 @@ pub struct Summary {
     pub deepest: Option<(usize, char)>,
     /// Phones of lex.phones that no entry has, and of lts.phones that no leaf has.
     pub unused: [Option<Vec<String>>; 2],
+    /// How many entries and how many leaves have a secondary stress.
+    pub secondary: [Option<usize>; 2],
+}
+
+/// The sheets that tables suit.
+#[derive(Clone, Copy, Debug)]
+pub struct Sheets {
+    /// How many entries and how many leaves have a secondary stress, which version 1 leaves on the phone.
+    pub entries: usize,
+    pub leaves: usize,
+}
+
+impl Sheets {
+    /// The versions that take every stress off.
+    pub fn versions(&self) -> &'static [usize] {
+        match (self.entries, self.leaves) {
+            (0, 0) => &[1, 2],
+            _ => &[2],
+        }
+    }
+}
+
+impl Summary {
+    /// The sheets that the tables suit; none where a fault is in the way.
+    pub fn sheets(&self) -> Option<Sheets> {
+        let [entries, leaves] = self.secondary;
+        Some(Sheets { entries: entries?, leaves: leaves? })
+    }
 }
 
 /// All that is told of a folder.

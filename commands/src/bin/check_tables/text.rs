@@ -4,7 +4,8 @@ use std::io::{self, Write};
 
 use commands::program::one_line;
 
-use crate::report::{Detail, Place, Report, Warning};
+use crate::report::{Detail, Place, Report, Sheets, Warning};
+use crate::stress;
 
 /// The most users of a phone that are named.
 const MOST_NAMED: usize = 5;
@@ -46,15 +47,54 @@ fn counts(report: &Report) -> Vec<String> {
     if let Some((depth, letter)) = summary.deepest {
         lines.push(format!("deepest tree: {depth} nodes, of \"{letter}\""));
     }
-    for (name, unused) in ["lex.phones", "lts.phones"].into_iter().zip(&summary.unused) {
-        if let Some(unused) = unused {
-            let names =
-                if unused.is_empty() { "none".to_string() } else { one_line(&unused.join(" ")) };
-            lines.push(format!("phones of {name} never used: {names}"));
-        }
+    let [lex, lts] = &summary.unused;
+    let lex = lex.as_ref().map(|phones| (but_stressed_vowels(phones), "lex.phones"));
+    let lts = lts.as_ref().map(|phones| (names(phones), "lts.phones"));
+    for (unused, name) in lex.into_iter().chain(lts) {
+        lines.push(format!("phones of {name} never used: {unused}"));
     }
+    lines.extend(summary.sheets().map(suited));
     lines.retain(|line| !line.is_empty());
     lines
+}
+
+fn names(phones: &[String]) -> String {
+    match phones {
+        [] => "none".to_string(),
+        _ => one_line(&phones.join(" ")),
+    }
+}
+
+/// The phones by their names, but for vowels with their stress, which are counted: `tables/make` lists them all, so that
+/// names may have them.
+fn but_stressed_vowels(phones: &[String]) -> String {
+    let (vowels, others): (Vec<String>, Vec<String>) =
+        phones.iter().cloned().partition(|phone| stress::is_stressed_vowel(phone));
+    let counted = match vowels.len() {
+        0 => return names(&others),
+        1 => "1 vowel with its stress".to_string(),
+        many => format!("{many} vowels with their stress"),
+    };
+    if others.is_empty() {
+        counted
+    } else {
+        format!("{}, and {counted}", names(&others))
+    }
+}
+
+fn suited(sheets: Sheets) -> String {
+    let number = |count: usize, one: &str, many: &str| match count {
+        1 => format!("1 {one}"),
+        _ => format!("{count} {many}"),
+    };
+    match sheets.versions() {
+        [one] => format!(
+            "suits sheets of version {one} only: {} and {} have a secondary stress",
+            number(sheets.entries, "entry", "entries"),
+            number(sheets.leaves, "leaf", "leaves")
+        ),
+        _ => "suits sheets of versions 1 and 2".to_string(),
+    }
 }
 
 fn line(detail: &Detail) -> String {

@@ -5,7 +5,9 @@ use std::io::Write;
 use commands::program::{tell, Fault};
 use commands::refusals;
 use commands::typed::Word;
-use pronouncer::{Letters, Lexicon, Refused, Sayable, Sheet, Store, WordSource};
+use pronouncer::{
+    Letters, Lexicon, Refused, Sayable, Sheet, SheetVersion, Store, Stress, WordSource,
+};
 use pronouncer::{LARGEST_BYTES, LIST_BYTES};
 
 use crate::tally::Tally;
@@ -21,6 +23,8 @@ pub struct Desk<'a> {
     pub plain: bool,
     /// Whether only words from the letters are listed.
     pub guessed: bool,
+    /// The version of the sheets.
+    pub version: SheetVersion,
 }
 
 /// What was told of a word.
@@ -29,6 +33,8 @@ pub struct Said {
     /// Where its letters stopped; 0 if they were not read.
     pub place: usize,
     pub has_phones: bool,
+    /// The first phone that kept its "2", where the sheet has no secondary stress.
+    pub with_2: Option<String>,
     /// Its syllables, each behind its stress.
     reading: String,
 }
@@ -73,7 +79,7 @@ impl Desk<'_> {
             let told = format!(" ({}):{}\n", said.source, said.reading);
             out.write_all(&[&name, told.as_bytes()].concat())?;
         }
-        if let Some(warning) = warnings::of(self, word, &said) {
+        for warning in warnings::of(self, word, &said) {
             tell(format_args!("warning: {warning}"));
         }
         let guessed = usize::from(said.is_guessed());
@@ -90,12 +96,20 @@ impl Desk<'_> {
 
     fn said(&self, word: &Word) -> Result<Said, Refused> {
         let mut items = vec![0; LARGEST_BYTES];
-        let mut sheet = Sheet::new_sheet(&mut items)?;
+        let mut sheet = Sheet::new_sheet(&mut items, self.version)?;
         let (lexicon, letters) = (&self.lexicon, &self.letters);
         let said = sheet.say_word(lexicon, letters, &self.store, &word.text, &word.tag)?;
         let has_phones = sheet.phones().next().is_some();
         let source = sheet.words().next().map_or(WordSource::Letters, |word| word.source());
-        Ok(Said { source, place: said.place(), has_phones, reading: reading(&sheet) })
+        let with_2 = self.with_2(&sheet);
+        Ok(Said { source, place: said.place(), has_phones, with_2, reading: reading(&sheet) })
+    }
+
+    fn with_2(&self, sheet: &Sheet) -> Option<String> {
+        if self.version.has_stress(Stress::Secondary) {
+            return None;
+        }
+        sheet.phones().find(|phone| phone.ends_with('2')).map(str::to_string)
     }
 }
 

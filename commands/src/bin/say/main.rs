@@ -9,25 +9,28 @@ mod warnings;
 mod words;
 
 use std::env;
-use std::ffi::OsString;
+use std::ffi::{OsStr, OsString};
 use std::io::Write;
+use std::os::unix::ffi::OsStrExt;
 use std::path::Path;
 use std::process::ExitCode;
 
 use commands::options::{once, Argument, Known, WrongUse};
-use commands::program::{tell, Fault, Program, Status};
+use commands::program::{quoted, tell, Fault, Program, Status};
 use commands::{entries, stores, tables};
-use pronouncer::{Lexicon, Store, Tables};
+use pronouncer::{Lexicon, SheetVersion, Store, Tables};
 
 use desk::Desk;
 
 const PROGRAM: Program = Program {
     name: "say",
     help: "\
-say [--tables FOLDER] [--store STORE_FILE] [--entries FILE] .. [--plain] [--guessed] [--] [WORD ..]
+say [--tables FOLDER] [--store STORE_FILE] [--entries FILE] .. [--plain] [--guessed] [--sheet-version VERSION] [--]
+    [WORD ..]
 
-Tells each WORD's source, its syllables, each behind its stress, and their phones. A WORD may have a tag behind a
-slash, as lead/v. With no WORD, words are read from standard input, and each line is answered as it comes.
+Tells each WORD's source, its syllables, each behind its stress, and their phones. A stress is 1, 2 if it is a secondary
+one, or 0 for none. A WORD may have a tag behind a slash, as lead/v. With no WORD, words are read from standard input,
+and each line is answered as it comes.
 
   --tables FOLDER   the sections: lex.phones, lex.index, lex.data, lts.phones, lts.index and lts.model, and aswd.p and
                     aswd.s for warnings; usually the folder that PRONOUNCER_TABLES names, or tables/english/sections
@@ -40,8 +43,11 @@ slash, as lead/v. With no WORD, words are read from standard input, and each lin
                     asked stands behind ->
   --guessed         lists only the words that came from the letters, for the check before the show; standard output has
                     nothing else, and standard error ends with how many words were asked, guessed and refused
+  --sheet-version VERSION
+                    the version of the sheets that words are said on, 1 or 2: in version 1 a last 0 or 1 of a phone is
+                    its stress, in version 2 also a last 2, the secondary stress; usually 2
   --help            this text
-  --version         the version
+  --version         the version of this program
 
 Answers go to standard output, refusals and warnings to standard error. Ends with 0 if every WORD was said, with 1 if
 something was refused or a word from its letters has no phones, with 2 if the command line cannot be understood.
@@ -67,6 +73,10 @@ something was refused or a word from its letters has no phones, with 2 if the co
             name: "--guessed",
             has_value: false,
         },
+        Known {
+            name: "--sheet-version",
+            has_value: true,
+        },
     ],
 };
 
@@ -82,6 +92,7 @@ struct Asked {
     entries: Vec<OsString>,
     plain: bool,
     guessed: bool,
+    version: Option<SheetVersion>,
     /// Texts of words; standard input if there are none.
     texts: Vec<OsString>,
 }
@@ -95,6 +106,9 @@ impl Asked {
                     once(name, &mut asked.tables, folder)?;
                 }
                 Argument::Value(name @ "--store", file) => once(name, &mut asked.store, file)?,
+                Argument::Value(name @ "--sheet-version", text) => {
+                    once(name, &mut asked.version, version(&text)?)?;
+                }
                 Argument::Value(_, file) => asked.entries.push(file),
                 Argument::Option("--plain") => asked.plain = true,
                 Argument::Option(_) => asked.guessed = true,
@@ -102,6 +116,17 @@ impl Asked {
             }
         }
         Ok(asked)
+    }
+}
+
+fn version(text: &OsStr) -> Result<SheetVersion, WrongUse> {
+    match text.to_str() {
+        Some("1") => Ok(SheetVersion::V1),
+        Some("2") => Ok(SheetVersion::V2),
+        _ => {
+            let text = quoted(text.as_bytes());
+            Err(WrongUse(format!("--sheet-version takes 1 or 2, and not {text}")))
+        }
     }
 }
 
@@ -129,6 +154,7 @@ fn run(asked: &Asked, out: &mut dyn Write) -> Result<Status, Fault> {
         store,
         plain: asked.plain,
         guessed: asked.guessed,
+        version: asked.version.unwrap_or(SheetVersion::V2),
     };
     let tally = if asked.texts.is_empty() {
         words::from_input(&desk, out)?

@@ -1,4 +1,4 @@
-//! What is doubtful about a word that was said from its letters, and what to do.
+//! What is doubtful about a word that was said, and what to do.
 
 use commands::program::quoted;
 use commands::typed::Word;
@@ -6,8 +6,22 @@ use commands::typed::Word;
 use crate::desk::{Desk, Said};
 use crate::plain;
 
-/// The first warning that applies.
-pub fn of(desk: &Desk, word: &Word, said: &Said) -> Option<String> {
+/// Its warnings: of its letters, then of its stress.
+pub fn of(desk: &Desk, word: &Word, said: &Said) -> impl Iterator<Item = String> {
+    of_letters(desk, word, said).into_iter().chain(of_stress(desk, word, said))
+}
+
+/// Of a word that kept a "2": on a sheet of a later version it is a stress.
+fn of_stress(desk: &Desk, word: &Word, said: &Said) -> Option<String> {
+    let (name, version) = (quoted(&word.field()), desk.version);
+    let phone = quoted(said.with_2.as_ref()?.as_bytes());
+    Some(format!(
+        "{name}: {phone} is no phone, as version {version} of a sheet has no secondary stress: use --sheet-version 2"
+    ))
+}
+
+/// Of a word from its letters, the first warning that applies.
+fn of_letters(desk: &Desk, word: &Word, said: &Said) -> Option<String> {
     if !said.is_guessed() {
         return None;
     }

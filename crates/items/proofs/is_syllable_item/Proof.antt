@@ -2,7 +2,7 @@
 use borrow.Author.Needs.{needs}
 use Rattle.items.proofs.is_syllable_item.Statement.{statement}
 use lib.Dec.{eqb}
-use mathlib.Core.Bool.{_&&_, _||_, and-assoc}
+use mathlib.Core.Bool.{_&&_, and-assoc}
 use mathlib.Core.Path.{_∙_}
 use Rattle.items_spec.specs.Item.{itemOf, isSyllableItem}
 use Rattle.items.proofs.is_syllable_item.Tie as tie
@@ -10,53 +10,41 @@ use Rattle.items.proofs.is_syllable_item.Tie as tie
 byte-at-requires : tie.Need-byte-at-requires
 byte-at-requires c κs = search needs
 
-byte-at-requires-2 : tie.Need-byte-at-requires-2
-byte-at-requires-2 c κs = search needs
-
-is-stress-requires : tie.Need-is-stress-requires
-is-stress-requires c κs = search needs
+are-zero-requires : tie.Need-are-zero-requires
+are-zero-requires c κs = search needs
 
 both-requires : tie.Need-both-requires
 both-requires c κs = search needs
 
-are-zero-requires : tie.Need-are-zero-requires
-are-zero-requires c κs = search needs
+is-unmarked-requires : tie.Need-is-unmarked-requires
+is-unmarked-requires c κs = search needs
 
 both-requires-2 : tie.Need-both-requires-2
 both-requires-2 c κs = search needs
 
-is-unmarked-requires : tie.Need-is-unmarked-requires
-is-unmarked-requires c κs = search needs
+text-requires : tie.Need-text-requires
+text-requires c κs = search needs
 
 both-requires-3 : tie.Need-both-requires-3
 both-requires-3 c κs = search needs
 
-text-requires : tie.Need-text-requires
-text-requires c κs = search needs
-
-both-requires-4 : tie.Need-both-requires-4
-both-requires-4 c κs = search needs
-
 returns : tie.Need-returns
 unfolding isSyllableItem itemOf
 returns c =
-    let i = itemOf (c .before .before .before .before .before .before .before .before .before .before .before .args .item .now) in
-    let f = eqb (i .kind) 2 && (eqb (i .stress) 48 || eqb (i .stress) 49) in
-    c .both4 .ensures
-    ∙ rw (c .before .before .both3 .ensures, c .before .before .before .before .both2 .ensures, c .before .before .before .before .before .before .both .ensures, c .before .before .before .before .before .before .before .before .before .byte-at .ensures, c .before .before .before .before .before .before .before .is-stress .ensures, c .before .before .before .before .before .before .before .before .byte-at2 .ensures, c .before .before .before .before .before .are-zero .ensures, c .before .before .before .is-unmarked .ensures, c .before .text .ensures, ← and-assoc f (eqb (i .prev) 0) (eqb (i .follow) 0), ← and-assoc (f && eqb (i .prev) 0 && eqb (i .follow) 0) (eqb (i .mark) 0) (eqb (i .source) 0))
+    let i = itemOf (c .before .before .before .before .before .before .before .before .args .item .now) in
+    let f = eqb (i .kind) 2 in
+    c .both3 .ensures
+    ∙ rw (c .before .before .both2 .ensures, c .before .before .before .before .both .ensures, c .before .before .before .before .before .before .byte-at .ensures, c .before .before .before .before .before .are-zero .ensures, c .before .before .before .is-unmarked .ensures, c .before .text .ensures, ← and-assoc f (eqb (i .prev) 0) (eqb (i .follow) 0), ← and-assoc (f && eqb (i .prev) 0 && eqb (i .follow) 0) (eqb (i .mark) 0) (eqb (i .source) 0))
 
 pub is-syllable-item-spec : {M : Type 1} → statement M
 is-syllable-item-spec =
     tie.close
     (tie.spec
     byte-at-requires
-    byte-at-requires-2
-    is-stress-requires
-    both-requires
     are-zero-requires
-    both-requires-2
+    both-requires
     is-unmarked-requires
-    both-requires-3
+    both-requires-2
     text-requires
-    both-requires-4
+    both-requires-3
     returns)

@@ -2,12 +2,13 @@
 -- Assumes nothing.
 use Prim.Native.Nat.{_≤_}
 use mathlib.Core.Path.{_≡_}
-use mathlib.Core.Bool.{Bool, true, _&&_, _||_}
+use mathlib.Core.Bool.{Bool, true, _&&_}
 use lib.Dec.{eqb, leb}
 use lib.ListN.{length}
 use borrow.Author.Tests.{eqb-true, leb-true}
 use Rattle.texts.specs.Choice.{both-true}
 use Rattle.texts.specs.Text.{ascii, isWord}
+use Rattle.versions.specs.Versions.{isSheetVersion}
 use Rattle.items_spec.specs.Item.{Item, isSource, isWordItem, isSyllableItem, isPhoneItem, isHeadItem}
 
 pub record WordFields (i : Item) : Type 0 where
@@ -21,7 +22,6 @@ pub record WordFields (i : Item) : Type 0 where
 
 pub record SyllableFields (i : Item) : Type 0 where
   pub kind : i .kind ≡ 2
-  pub stress : (eqb (i .stress) 48 || eqb (i .stress) 49) ≡ true
   pub prev : i .prev ≡ 0
   pub follow : i .follow ≡ 0
   pub mark : i .mark ≡ 0
@@ -40,7 +40,7 @@ pub record PhoneFields (i : Item) : Type 0 where
 
 pub record HeadFields (i : Item) : Type 0 where
   pub kind : i .kind ≡ 0
-  pub stress : i .stress ≡ 0
+  pub version : isSheetVersion (i .stress) ≡ true
   pub next : i .next ≡ 0
   pub mark : i .mark ≡ 0
   pub source : i .source ≡ 0
@@ -89,20 +89,14 @@ module _ (i : Item) where
   pub syllable-fields : isSyllableItem i ≡ true → SyllableFields i
   unfolding isSyllableItem
   syllable-fields h =
-      let kind = eqb (i .kind) 2 in
-      let stress = eqb (i .stress) 48 || eqb (i .stress) 49 in
-      let prev = eqb (i .prev) 0 in
-      let follow = eqb (i .follow) 0 in
-      let a = both-true (kind && stress && prev && follow && noMark && noSource) (eqb (length (i .text)) 0) h in
-      let t = six-true kind stress prev follow noMark noSource (a .0) in
+      let t = six-true (eqb (i .kind) 2) (eqb (i .prev) 0) (eqb (i .follow) 0) noMark noSource (eqb (length (i .text)) 0) h in
       record {
         kind = eqb-true (i .kind) 2 (t .0);
-        stress = t .1;
-        prev = eqb-true (i .prev) 0 (t .2);
-        follow = eqb-true (i .follow) 0 (t .3);
-        mark = eqb-true (i .mark) 0 (t .4);
-        source = eqb-true (i .source) 0 (t .5);
-        text = eqb-true (length (i .text)) 0 (a .1);
+        prev = eqb-true (i .prev) 0 (t .1);
+        follow = eqb-true (i .follow) 0 (t .2);
+        mark = eqb-true (i .mark) 0 (t .3);
+        source = eqb-true (i .source) 0 (t .4);
+        text = eqb-true (length (i .text)) 0 (t .5);
       }
 
   pub phone-fields : isPhoneItem i ≡ true → PhoneFields i
@@ -130,10 +124,10 @@ module _ (i : Item) where
   pub head-fields : isHeadItem i ≡ true → HeadFields i
   unfolding isHeadItem
   head-fields h =
-      let t = six-true (eqb (i .kind) 0) (eqb (i .stress) 0) (eqb (i .next) 0) noMark noSource (eqb (length (i .text)) 0) h in
+      let t = six-true (eqb (i .kind) 0) (isSheetVersion (i .stress)) (eqb (i .next) 0) noMark noSource (eqb (length (i .text)) 0) h in
       record {
         kind = eqb-true (i .kind) 0 (t .0);
-        stress = eqb-true (i .stress) 0 (t .1);
+        version = t .1;
         next = eqb-true (i .next) 0 (t .2);
         mark = eqb-true (i .mark) 0 (t .3);
         source = eqb-true (i .source) 0 (t .4);

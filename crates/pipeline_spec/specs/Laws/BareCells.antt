@@ -1,4 +1,4 @@
--- The bare phones of a list in cells, and the phones of cells that stand at the front of a room.
+-- The bare phones, in version v, of a list in cells, and the phones of cells that stand at the front of a room.
 -- Assumes nothing.
 use Prim.Native.Nat.{ℕ, _*_, _/_, _≤_, _<_}
 use native.Mathlib.Omega.{arith}
@@ -8,25 +8,26 @@ use lib.ListN.{length, getD, take, length-map}
 use lib.Seq.{take-at}
 use Rattle.texts.specs.Lists.{getD-map}
 use Rattle.cells.specs.Cells.{phonesOf, cellsOf, length-phonesOf, phone-fits, length-cellsOf, phones-cells}
-use Rattle.phoneset.specs.Stress.{digits, bare, bare-short}
+use Rattle.versions.specs.Versions.{digits}
+use Rattle.phoneset.specs.Stress.{bare, bare-short}
 
 -- each bare phone fits into a cell
-module _ (b : List ℕ) where
+module _ (v : ℕ) (b : List ℕ) where
   abbrev pub bareOf : List (List ℕ)
-  bareOf = map (bare digits) (phonesOf b)
+  bareOf = map (bare (digits v)) (phonesOf b)
 
   pub length-bare : length bareOf ≡ length b / 16
-  length-bare = length-map (phonesOf b) (bare digits) ∙ length-phonesOf b
+  length-bare = length-map (phonesOf b) (bare (digits v)) ∙ length-phonesOf b
 
-  pub bare-at : (i : ℕ) → i < length b / 16 → getD bareOf i [] ≡ bare digits (getD (phonesOf b) i [])
-  bare-at i h = getD-map (bare digits) (phonesOf b) i [] [] (rw length-phonesOf h)
+  pub bare-at : (i : ℕ) → i < length b / 16 → getD bareOf i [] ≡ bare (digits v) (getD (phonesOf b) i [])
+  bare-at i h = getD-map (bare (digits v)) (phonesOf b) i [] [] (rw length-phonesOf h)
 
   pub bares-fit : (i : ℕ) → i < length bareOf → length (getD bareOf i []) ≤ 15
   bares-fit i h =
       let l = length-bare in
       let k : i < length b / 16 = omega arith in
       let f = phone-fits b i k in
-      let s = bare-short digits (getD (phonesOf b) i []) in
+      let s = bare-short (digits v) (getD (phonesOf b) i []) in
       rw (bare-at i k) (omega arith)
 
 -- cells at the front of a room, read again

@@ -1,16 +1,17 @@
--- What is pronounced fits: it has a source, each phone has at most 15 bytes, all below 128; a digit of stress is "0" or "1".
+-- What is pronounced fits: it has a source, each phone has at most 15 bytes, all below 128; a digit that is taken off is a stress of the version.
 -- Assumes nothing.
 use Prim.Native.Nat.{ℕ}
-use mathlib.Core.Path.{_≡_, refl, sym, subst}
-use mathlib.Core.Bool.{Bool, true, false, _||_}
+use mathlib.Core.Path.{_≡_, refl, sym, _∙_, subst}
+use mathlib.Core.Bool.{true}
 use mathlib.Core.List.{List}
 use mathlib.Core.Option.{Option, none, some}
-use lib.Dec.{eqb, ltb}
+use lib.Dec.{ltb}
 use lib.ListN.{length}
-use Rattle.texts.specs.Choice.{cases, never}
-use Rattle.texts.specs.Lists.{every, some as someOf}
+use Rattle.texts.specs.Choice.{cases}
+use Rattle.texts.specs.Lists.{every}
 use Rattle.texts.specs.Text.{isPhone}
-use Rattle.phoneset.specs.Stress.{digits, lastByte, isStressed, stress}
+use Rattle.versions.specs.Versions.{digits, isStress}
+use Rattle.phoneset.specs.Stress.{isStressed, stress, stressed-by}
 use Rattle.items_spec.specs.Item.{isSource}
 use Rattle.slots_spec.specs.Slot.{Entry, fits}
 use Rattle.lts_spec.specs.Letters.{letters, stopped, isTrees, trees-table}
@@ -23,17 +24,10 @@ use Rattle.pipeline_spec.specs.Pronounced.{Sections, Spoken, barred, pho
 use Rattle.pipeline_spec.specs.Laws.Sources.{Fit, find-fit}
 use Rattle.lts_spec.specs.FewPhones.{AreFit, letters-fit}
 
--- a stress byte
-unfoldable pub isStress : ℕ → Bool
-isStress n = eqb n 48 || eqb n 49
-
-one-of : (n : ℕ) → someOf (eqb n) digits ≡ true → isStress n ≡ true
-unfolding isStress someOf
-one-of n h = cases (eqb n 48) (λ e. rw e) (λ e. cases (eqb n 49) (λ f. rw (e, f)) (λ f. let z : false ≡ true = rw (e, f) at h in never false z refl))
-
-pub digit : (p : List ℕ) → isStressed digits p ≡ true → isStress (stress digits p) ≡ true
+-- a digit that is taken off is a stress
+pub digit : (v : ℕ) (p : List ℕ) → isStressed (digits v) p ≡ true → isStress v (stress (digits v) p) ≡ true
 unfolding stress
-digit p h = rw h (one-of (lastByte p) (unfold isStressed in h))
+digit v p h = rw h (sym (stressed-by v p) ∙ h)
 
 -- what was pronounced
 abbrev Fits : Spoken → Type 0

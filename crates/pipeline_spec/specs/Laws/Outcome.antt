@@ -16,6 +16,7 @@ use Rattle.cells.specs.Cells.{phonesOf, cellsOf, length-cellsOf}
 use Rattle.slots_spec.specs.Slot.{Entry}
 use Rattle.lts_spec.specs.Letters.{letters, stopped}
 use Rattle.lexicon_spec.specs.Lookup.{Finding, nothing, damaged, found, find, wantedTag}
+use Rattle.utterance_spec.specs.Sheet.{version}
 use Rattle.utterance_spec.specs.Append.{appended}
 use Rattle.answers.specs.declared.Answer.{Answer}
 use Rattle.answers.specs.declared.Refusal.{Refusal}
@@ -58,8 +59,8 @@ module _ (sheet word : List ℕ) where
   -- phones, read back from the front of a room
   pub said-phones : (p : Spoken) (source place n : ℕ) (room cells : List ℕ) → Real p → acceptedWith source n place 0 ≡ toldSpoken p → cells ≡ take (16 * n) (cellsSpoken p room)
       → ((source place : ℕ) (ps : List (List ℕ)) → p ≡ phones source place ps → every isPhone ps ≡ true)
-      → (placed sheet place (said word source (phonesOf cells)) ≡ onSpoken sheet word p)
-      × (sheetPlaced sheet place (said word source (phonesOf cells)) ≡ written (onSpoken sheet word p) sheet (withSpoken sheet word p))
+      → (placed sheet place (said (version sheet) word source (phonesOf cells)) ≡ onSpoken sheet word p)
+      × (sheetPlaced sheet place (said (version sheet) word source (phonesOf cells)) ≡ written (onSpoken sheet word p) sheet (withSpoken sheet word p))
   said-phones (barred m) source place n room cells r h e f = absurd (r (sym (ap (λ (a : Answer). a .refusal) h)))
   said-phones (phones s q ps) source place n room cells r h e f =
       let l : n ≡ length ps = ap (λ (a : Answer). a .value) h in

@@ -15,7 +15,7 @@ use Rattle.records.specs.Chain.{All, endOf, all-map, all-end}
 use Rattle.items_spec.specs.Item.{itemOf, isWordItem, isSyllableItem, isPhoneItem, isHeadItem, fits, isItem, isHead}
 use Rattle.items_spec.specs.Laws.Patched.{patch-clean, patch-next, patch-follow}
 use Rattle.utterance_spec.specs.Tree.{Word, phonesIn}
-use Rattle.utterance_spec.specs.Sheet.{at, used, items}
+use Rattle.utterance_spec.specs.Sheet.{at, used, items, version}
 use Rattle.utterance_spec.specs.Append.{headOr, size, numbered, wordItems, putItems, tied, appended, isSaid}
 use Rattle.utterance_spec.specs.Laws.Behind.{all-from}
 use Rattle.utterance_spec.specs.Laws.Places.{numbered-alike, all-phonesIn, word-items}
@@ -43,7 +43,7 @@ follow-fits : (r : List ℕ) (v : ℕ) → length r ≡ 64 → v < 65536 → ite
 unfolding isItem fits isPhoneItem
 follow-fits r v l h k = rw (patch-clean r 12 v l (omega arith), patch-follow r v l h, k)
 
-module _ (b : List ℕ) (w : Word) (short : length b ≤ 65536) (room : used b + size w < items b) (may : isSaid w ≡ true)
+module _ (b : List ℕ) (w : Word) (short : length b ≤ 65536) (room : used b + size w < items b) (may : isSaid (version b) w ≡ true)
     (inw : at b 0 .last ≤ used b) (inp : at b 0 .prev ≤ used b) (apart : at b 0 .last ≢ 0 → at b 0 .last ≢ at b 0 .prev) where
   abbrev n : ℕ
   n = used b + 1
@@ -70,7 +70,7 @@ module _ (b : List ℕ) (w : Word) (short : length b ≤ 65536) (room : used b +
   c = tied c₀ lw lp n a l (used b + size w)
 
   good : Good (wordItems n lp w)
-  good = word-good n lp w may
+  good = word-good (version b) n lp w may
 
   wide : 64 * (n + length (wordItems n lp w)) ≤ length b
   wide = rw (length-word n lp w) (omega arith)

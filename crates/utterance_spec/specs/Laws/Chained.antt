@@ -1,20 +1,22 @@
--- 01, Store and sheet: the phones among the items of a tree are its phones; so the tests over the items say that the phones are chained both ways, and that each syllable has one. `S` gives each item.
+-- 01, Store and sheet: the phones among the items of a tree are its phones; so the tests over the items say that the phones are chained
+-- both ways, and that each syllable has a stress of the version, and a phone. `S` gives each item.
 -- Assumes nothing.
 use Prim.Native.Nat.{ℕ, _≤_}
 use native.Mathlib.Omega.{arith}
 use mathlib.Core.Path.{_≡_, refl, sym, ap, _∙_, subst}
 use mathlib.Core.Logic.{_≢_}
-use mathlib.Core.Bool.{true, _&&_}
+use mathlib.Core.Bool.{true, not, _&&_}
 use mathlib.Core.List.{List, [], _∷_, _++_, append-assoc, reverse, reverseAux}
 use lib.Dec.{eqb}
 use lib.ListN.{length}
-use borrow.Author.Tests.{eqb-true, eq-eqb, ne-eqb}
-use Rattle.texts.specs.Choice.{if_then_else_, cases, both-true, never}
+use borrow.Author.Tests.{eqb-true, eqb-false, eq-eqb, ne-eqb, not-true}
+use Rattle.texts.specs.Choice.{if_then_else_, cases, both-true}
 use Rattle.texts.specs.Lists.{every}
 use Rattle.records.specs.Chain.{All, Linked}
+use Rattle.versions.specs.Versions.{isStress}
 use Rattle.items_spec.specs.Item.{Item}
-use Rattle.utterance_spec.specs.Tree.{SyllableAt, WordAt, phonesIn, phonesAt, itemsIn, itemsAt, FullIn, Full, prev, follow, Children, Syllables, Words}
-use Rattle.utterance_spec.specs.Sheet.{isFull, isChained}
+use Rattle.utterance_spec.specs.Tree.{SyllableAt, WordAt, phonesIn, phonesAt, itemsIn, itemsAt, SungIn, Sung, prev, follow, Children, Syllables, Words}
+use Rattle.utterance_spec.specs.Sheet.{isSung, isChained}
 use Rattle.utterance_spec.specs.Laws.Ties.{Run, linked-run, run-linked, sibling-first}
 
 module _ (S : ℕ → Item) where
@@ -113,54 +115,61 @@ module _ (S : ℕ → Item) where
       let k : Back 0 (phonesAt ws) = subst (λ (q : ℕ). Back q (phonesAt ws)) (r .2) (r .1) in
       both-chained 0 (itemsAt ws) (subst (λ (l : List ℕ). Linked (follow S) 0 l) (sym e) f) (subst (λ (l : List ℕ). Back 0 l) (sym e) k)
 
-  -- a syllable has a first child where it has a phone
-  syllable-full : (y : ℕ) (ps : List ℕ) → S y .kind ≡ 2 → Children S y ps → isFull S y ≡ true → 1 ≤ length ps
-  unfolding isFull
-  syllable-full y [] k c t = let e : S y .first ≡ 0 = sym (sibling-first S y) ∙ c .linked in never (isFull S y) t (rw (k, e))
-  syllable-full y (p ∷ ps) k c t = omega arith
+  some-phone : (y : ℕ) (ps : List ℕ) → Children S y ps → S y .first ≢ 0 → 1 ≤ length ps
+  some-phone y [] c n = absurd (n (sym (sibling-first S y) ∙ c .linked))
+  some-phone y (p ∷ ps) c n = omega arith
 
-  full-syllable : (y : ℕ) (ps : List ℕ) → S y .kind ≡ 2 → Children S y ps → 1 ≤ length ps → isFull S y ≡ true
-  unfolding isFull
-  full-syllable y [] k c l = absurd (omega arith)
-  full-syllable y (p ∷ ps) k c l =
-      let e : S y .first ≡ p = sym (sibling-first S y) ∙ c .linked .0 in
-      rw (k, e, ne-eqb p 0 (c .linked .1))
+  -- a syllable that is sung has a stress, and a first child where it has a phone
+  module _ (v : ℕ) where
+    syllable-sung : (y : ℕ) (ps : List ℕ) → S y .kind ≡ 2 → Children S y ps → isSung S v y ≡ true → (isStress v (S y .stress) ≡ true) × (1 ≤ length ps)
+    unfolding isSung
+    syllable-sung y ps k c t =
+        let b = both-true (isStress v (S y .stress)) (not (eqb (S y .first) 0)) (rw k at t) in
+        (b .0, some-phone y ps c (eqb-false (S y .first) 0 (not-true (eqb (S y .first) 0) (b .1))))
 
-  -- phones and words pass
-  phones-pass : (ps xs : List ℕ) → All (λ (x : ℕ). S x .kind ≡ 3) ps → every (isFull S) (ps ++ xs) ≡ every (isFull S) xs
-  unfolding every isFull
-  phones-pass [] xs k = refl
-  phones-pass (p ∷ ps) xs k = rw (k .0) (phones-pass ps xs (k .1))
+    sung-syllable : (y : ℕ) (ps : List ℕ) → S y .kind ≡ 2 → Children S y ps → isStress v (S y .stress) ≡ true → 1 ≤ length ps → isSung S v y ≡ true
+    unfolding isSung
+    sung-syllable y [] k c t l = absurd (omega arith)
+    sung-syllable y (p ∷ ps) k c t l =
+        let e : S y .first ≡ p = sym (sibling-first S y) ∙ c .linked .0 in
+        rw (k, t, e, ne-eqb p 0 (c .linked .1))
 
-  full-in : (ys : List SyllableAt) (xs : List ℕ) → Syllables S ys → every (isFull S) (itemsIn ys ++ xs) ≡ true → FullIn ys × (every (isFull S) xs ≡ true)
-  unfolding every
-  full-in [] xs h t = (tt, t)
-  full-in (y ∷ ys) xs h t =
-      let b = both-true (isFull S (y .at)) (every (isFull S) (y .phones ++ itemsIn ys ++ xs)) t in
-      let e = ap (every (isFull S)) (append-assoc (y .phones) (itemsIn ys) xs) ∙ phones-pass (y .phones) (itemsIn ys ++ xs) (h .2) in
-      let ih = full-in ys xs (h .3) (sym e ∙ b .1) in
-      ((syllable-full (y .at) (y .phones) (h .0) (h .1) (b .0), ih .0), ih .1)
+    -- phones and words pass
+    phones-pass : (ps xs : List ℕ) → All (λ (x : ℕ). S x .kind ≡ 3) ps → every (isSung S v) (ps ++ xs) ≡ every (isSung S v) xs
+    unfolding every isSung
+    phones-pass [] xs k = refl
+    phones-pass (p ∷ ps) xs k = rw (k .0) (phones-pass ps xs (k .1))
 
-  in-full : (ys : List SyllableAt) (xs : List ℕ) → Syllables S ys → FullIn ys → every (isFull S) xs ≡ true → every (isFull S) (itemsIn ys ++ xs) ≡ true
-  unfolding every
-  in-full [] xs h f t = t
-  in-full (y ∷ ys) xs h f t =
-      let e = ap (every (isFull S)) (append-assoc (y .phones) (itemsIn ys) xs) ∙ phones-pass (y .phones) (itemsIn ys ++ xs) (h .2) in
-      let ih = in-full ys xs (h .3) (f .1) t in
-      rw (full-syllable (y .at) (y .phones) (h .0) (h .1) (f .0)) (e ∙ ih)
+    sung-in : (ys : List SyllableAt) (xs : List ℕ) → Syllables S ys → every (isSung S v) (itemsIn ys ++ xs) ≡ true → SungIn S v ys × (every (isSung S v) xs ≡ true)
+    unfolding every
+    sung-in [] xs h t = (tt, t)
+    sung-in (y ∷ ys) xs h t =
+        let b = both-true (isSung S v (y .at)) (every (isSung S v) (y .phones ++ itemsIn ys ++ xs)) t in
+        let e = ap (every (isSung S v)) (append-assoc (y .phones) (itemsIn ys) xs) ∙ phones-pass (y .phones) (itemsIn ys ++ xs) (h .2) in
+        let ih = sung-in ys xs (h .3) (sym e ∙ b .1) in
+        let s = syllable-sung (y .at) (y .phones) (h .0) (h .1) (b .0) in
+        ((s .0, s .1, ih .0), ih .1)
 
-  -- each syllable of a tree has a phone
-  pub full : (ws : List WordAt) → Words S ws → every (isFull S) (itemsAt ws) ≡ true → Full ws
-  unfolding every isFull
-  full [] h t = tt
-  full (w ∷ ws) h t =
-      let b = both-true (isFull S (w .at)) (every (isFull S) (itemsIn (w .syllables) ++ itemsAt ws)) t in
-      let f = full-in (w .syllables) (itemsAt ws) (h .2) (b .1) in
-      (f .0, full ws (h .3) (f .1))
+    in-sung : (ys : List SyllableAt) (xs : List ℕ) → Syllables S ys → SungIn S v ys → every (isSung S v) xs ≡ true → every (isSung S v) (itemsIn ys ++ xs) ≡ true
+    unfolding every
+    in-sung [] xs h f t = t
+    in-sung (y ∷ ys) xs h f t =
+        let e = ap (every (isSung S v)) (append-assoc (y .phones) (itemsIn ys) xs) ∙ phones-pass (y .phones) (itemsIn ys ++ xs) (h .2) in
+        let ih = in-sung ys xs (h .3) (f .2) t in
+        rw (sung-syllable (y .at) (y .phones) (h .0) (h .1) (f .0) (f .1)) (e ∙ ih)
 
-  pub is-full : (ws : List WordAt) → Words S ws → Full ws → every (isFull S) (itemsAt ws) ≡ true
-  unfolding every isFull
-  is-full [] h f = refl
-  is-full (w ∷ ws) h f =
-      let ih = in-full (w .syllables) (itemsAt ws) (h .2) (f .0) (is-full ws (h .3) (f .1)) in
-      rw (h .0) ih
+    -- each syllable of a tree is sung
+    pub sung : (ws : List WordAt) → Words S ws → every (isSung S v) (itemsAt ws) ≡ true → Sung S v ws
+    unfolding every isSung
+    sung [] h t = tt
+    sung (w ∷ ws) h t =
+        let b = both-true (isSung S v (w .at)) (every (isSung S v) (itemsIn (w .syllables) ++ itemsAt ws)) t in
+        let f = sung-in (w .syllables) (itemsAt ws) (h .2) (b .1) in
+        (f .0, sung ws (h .3) (f .1))
+
+    pub is-sung : (ws : List WordAt) → Words S ws → Sung S v ws → every (isSung S v) (itemsAt ws) ≡ true
+    unfolding every isSung
+    is-sung [] h f = refl
+    is-sung (w ∷ ws) h f =
+        let ih = in-sung (w .syllables) (itemsAt ws) (h .2) (f .0) (is-sung ws (h .3) (f .1)) in
+        rw (h .0) ih

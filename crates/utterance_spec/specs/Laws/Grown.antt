@@ -5,19 +5,20 @@ use native.Mathlib.Omega.{arith}
 use native.Mathlib.Decide.{ℕ-discrete}
 use mathlib.Core.Path.{_≡_, refl, sym, ap, _∙_, subst}
 use mathlib.Core.Logic.{_≢_}
+use mathlib.Core.Bool.{true}
 use mathlib.Core.List.{List, [], _∷_, _++_, map, reverse, append-nil}
 use lib.Dec.{eqb}
 use borrow.Author.Tests.{eq-eqb, ne-eqb}
 use Rattle.texts.specs.Choice.{if_then_else_}
-use Rattle.texts.specs.Lists.{from}
+use Rattle.texts.specs.Lists.{every, from}
 use Rattle.records.specs.Chain.{All, Distinct, Linked, endOf, all-map, all-append, all-end, end-append}
 use Rattle.items_spec.specs.Item.{Item}
-use Rattle.utterance_spec.specs.Tree.{Word, WordAt, wordsAt, phonesIn, phonesAt, itemsAt, Full, sibling, prev, follow, Children, Tree, wordAt}
-use Rattle.utterance_spec.specs.Append.{headOr, size, numbered, placeOf, wordItems}
+use Rattle.utterance_spec.specs.Tree.{Word, WordAt, wordsAt, phonesIn, phonesAt, itemsAt, SungIn, Sung, sibling, prev, follow, Children, Tree, syllableAt, wordAt}
+use Rattle.utterance_spec.specs.Append.{headOr, size, numbered, placeOf, wordItems, isSyllable}
 use Rattle.utterance_spec.specs.Laws.Behind.{all-both, all-reverse, reverse-append, head-reverse, distinct-append, all-from, distinct-from, onto-linked, backed-linked, linked-head, moved, join}
 use Rattle.utterance_spec.specs.Laws.Walked.{word-kinds}
-use Rattle.utterance_spec.specs.Laws.Places.{Filled, words-append, phones-append, items-append, full-append, tree-append, read-append, all-phonesIn, all-phones, all-words, numbered-full, word-items, place-items}
-use Rattle.utterance_spec.specs.Laws.Kept.{Kept, retied, kept-by, words-say, words-kept}
+use Rattle.utterance_spec.specs.Laws.Places.{words-append, phones-append, items-append, sung-append, tree-append, read-append, all-phonesIn, all-phones, all-words, sung-read, word-items, place-items}
+use Rattle.utterance_spec.specs.Laws.Kept.{Kept, retied, kept-by, words-say, words-sung, words-kept}
 use Rattle.utterance_spec.specs.Laws.Said.{Are, Said, said}
 
 -- item 0 with word n as its last word, phones from a to l behind its phones, and u items used
@@ -128,8 +129,11 @@ module _ (S T : ℕ → Item) (n u : ℕ) (w : Word) (g : Grown S T n u w) where
         (all-map (λ (i : ℕ). (i ≢ 0) × (i < n)) (λ (i : ℕ). All (λ (j : ℕ). i ≢ j) (from n (size w))) (itemsAt ws)
         (λ i h. all-map (λ (j : ℕ). (n ≤ j) × (j < n + size w)) (λ (j : ℕ). i ≢ j) (from n (size w)) (λ j k z. absurd (omega arith)) (all-from n (size w))) each))
 
-    pub grown-full : Full ws → Filled (w .syllables) → Full grown
-    grown-full f k = full-append (placeOf n w ∷ []) ws f (numbered-full (n + 1) (w .syllables) k, tt)
+    pub grown-sung : (v : ℕ) → Sung S v ws → every (isSyllable v) (w .syllables) ≡ true → Sung T v grown
+    grown-sung v h k =
+        let e : map (syllableAt T) (numbered (n + 1) (w .syllables)) ≡ w .syllables = ap (λ (x : Word). x .syllables) (spoken .says) in
+        let new : SungIn T v (numbered (n + 1) (w .syllables)) = sung-read T v (numbered (n + 1) (w .syllables)) (rw e k) in
+        sung-append (placeOf n w ∷ []) T v ws (words-sung S T lw lp v ws olds h) (new, tt)
 
     -- the words
     last-word : lw ≡ endOf 0 (wordsAt ws)

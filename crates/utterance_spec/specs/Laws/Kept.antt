@@ -8,7 +8,7 @@ use mathlib.Core.List.{List, [], _∷_, map}
 use borrow.Author.Tests.{eq-eqb}
 use Rattle.records.specs.Chain.{All, all-map, all-left, all-right, frame}
 use Rattle.items_spec.specs.Item.{Item}
-use Rattle.utterance_spec.specs.Tree.{SyllableAt, WordAt, syllablesAt, itemsIn, itemsAt, sibling, Children, Syllables, Words, textAt, syllableAt, wordAt}
+use Rattle.utterance_spec.specs.Tree.{SyllableAt, WordAt, syllablesAt, itemsIn, itemsAt, sibling, Children, Syllables, Words, SungIn, Sung, textAt, syllableAt, wordAt}
 use Rattle.utterance_spec.specs.Laws.Behind.{all-both}
 
 -- what item i of S keeps in T, where lw is the last word and lp the last phone
@@ -66,6 +66,19 @@ module _ (S T : ℕ → Item) (lw lp : ℕ) where
       let a = syllables-say (w .syllables) (all-left (Kept S T lw lp) (itemsIn (w .syllables)) (itemsAt ws) (h .1)) in
       let ih = words-say ws (all-right (Kept S T lw lp) (itemsIn (w .syllables)) (itemsAt ws) (h .1)) in
       rw (h .0 .text, h .0 .source, a, ih)
+
+  -- what is sung stays so
+  syllables-sung : (v : ℕ) (ss : List SyllableAt) → All (Kept S T lw lp) (itemsIn ss) → SungIn S v ss → SungIn T v ss
+  syllables-sung v [] k h = tt
+  syllables-sung v (s ∷ ss) k h =
+      (rw (k .0 .stress) (h .0), h .1, syllables-sung v ss (all-right (Kept S T lw lp) (s .phones) (itemsIn ss) (k .1)) (h .2))
+
+  pub words-sung : (v : ℕ) (ws : List WordAt) → All (Kept S T lw lp) (itemsAt ws) → Sung S v ws → Sung T v ws
+  words-sung v [] k h = tt
+  words-sung v (w ∷ ws) k h = (
+    syllables-sung v (w .syllables) (all-left (Kept S T lw lp) (itemsIn (w .syllables)) (itemsAt ws) (k .1)) (h .0),
+    words-sung v ws (all-right (Kept S T lw lp) (itemsIn (w .syllables)) (itemsAt ws) (k .1)) (h .1),
+  )
 
   -- the children of p, none of which is the last word
   children-kept : (p : ℕ) (xs : List ℕ) → Kept S T lw lp p → All (λ (x : ℕ). Kept S T lw lp x × (x ≢ lw)) xs → Children S p xs → Children T p xs

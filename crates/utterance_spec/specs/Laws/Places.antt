@@ -3,14 +3,20 @@
 use Prim.Native.Nat.{ℕ, suc, _+_, _≤_}
 use native.Mathlib.Numerals.{add-one}
 use native.Mathlib.Omega.{arith}
-use mathlib.Core.Path.{_≡_, refl, sym, ap, _∙_}
+use mathlib.Core.Path.{_≡_, refl, sym, ap, _∙_, subst}
+use mathlib.Core.Bool.{true, _&&_}
 use mathlib.Core.List.{List, [], _∷_, _++_, map, append-assoc, append-nil}
-use lib.ListN.{length}
-use Rattle.texts.specs.Lists.{from, length-from}
+use lib.Dec.{leb}
+use lib.ListN.{length, length-map}
+use borrow.Author.Tests.{leb-true}
+use Rattle.texts.specs.Choice.{both-true}
+use Rattle.texts.specs.Lists.{every, from, length-from}
+use Rattle.texts.specs.Text.{isPhone}
 use Rattle.records.specs.Chain.{All, all-append, all-left, all-right}
+use Rattle.versions.specs.Versions.{isStress}
 use Rattle.items_spec.specs.Item.{Item}
-use Rattle.utterance_spec.specs.Tree.{Syllable, Word, SyllableAt, WordAt, syllablesAt, wordsAt, phonesIn, phonesAt, itemsIn, itemsAt, FullIn, Full, Syllables, Words}
-use Rattle.utterance_spec.specs.Append.{sizeIn, size, numbered, placeOf}
+use Rattle.utterance_spec.specs.Tree.{Syllable, Word, SyllableAt, WordAt, syllablesAt, wordsAt, phonesIn, phonesAt, itemsIn, itemsAt, SungIn, Sung, Syllables, Words, textAt, syllableAt}
+use Rattle.utterance_spec.specs.Append.{sizeIn, size, numbered, placeOf, isSyllable}
 use Rattle.utterance_spec.specs.Laws.Behind.{from-append}
 
 -- words behind words
@@ -30,9 +36,9 @@ module _ (us : List WordAt) where
       ap (λ (l : List ℕ). w .at ∷ itemsIn (w .syllables) ++ l) (items-append ws)
       ∙ ap (λ (l : List ℕ). w .at ∷ l) (sym (append-assoc (itemsIn (w .syllables)) (itemsAt ws) (itemsAt us)))
 
-  pub full-append : (ws : List WordAt) → Full ws → Full us → Full (ws ++ us)
-  full-append [] h k = k
-  full-append (w ∷ ws) h k = (h .0, full-append ws (h .1) k)
+  pub sung-append : (S : ℕ → Item) (v : ℕ) (ws : List WordAt) → Sung S v ws → Sung S v us → Sung S v (ws ++ us)
+  sung-append S v [] h k = k
+  sung-append S v (w ∷ ws) h k = (h .0, sung-append S v ws (h .1) k)
 
   pub tree-append : (S : ℕ → Item) (ws : List WordAt) → Words S ws → Words S us → Words S (ws ++ us)
   tree-append S [] h k = k
@@ -85,15 +91,18 @@ unfolding numbered
 numbered-alike k [] = tt
 numbered-alike k (y ∷ ys) = (length-from (k + 1) (length (y .phones)), numbered-alike (k + 1 + length (y .phones)) ys)
 
--- syllables that have phones
-abbrev pub Filled : List Syllable → Type 0
-Filled [] = Unit {0}
-Filled (y ∷ ys) = (1 ≤ length (y .phones)) × Filled ys
-
-pub numbered-full : (k : ℕ) (ys : List Syllable) → Filled ys → FullIn (numbered k ys)
-unfolding numbered
-numbered-full k [] h = tt
-numbered-full k (y ∷ ys) h = (rw (length-from (k + 1) (length (y .phones))) (h .0), numbered-full (k + 1 + length (y .phones)) ys (h .1))
+-- syllables that read as ones that may be said are sung
+pub sung-read : (S : ℕ → Item) (v : ℕ) (ss : List SyllableAt) → every (isSyllable v) (map (syllableAt S) ss) ≡ true → SungIn S v ss
+unfolding every isSyllable
+sung-read S v [] h = tt
+sung-read S v (s ∷ ss) h =
+    let stress = isStress v (S (s .at) .stress) in
+    let ps = map (textAt S) (s .phones) in
+    let a = both-true (stress && leb 1 (length ps) && every isPhone ps) (every (isSyllable v) (map (syllableAt S) ss)) h in
+    let b = both-true (stress && leb 1 (length ps)) (every isPhone ps) (a .0) in
+    let c = both-true stress (leb 1 (length ps)) (b .0) in
+    let l = leb-true 1 (length ps) (c .1) in
+    (c .0, subst (λ (n : ℕ). 1 ≤ n) (length-map (s .phones) (textAt S)) l, sung-read S v ss (a .1))
 
 -- numbered items are all numbers from the first on
 pub numbered-items : (k : ℕ) (ys : List Syllable) → itemsIn (numbered k ys) ≡ from k (sizeIn ys)

@@ -4,9 +4,9 @@ use Prim.Native.Nat.{ℕ, _+_, _*_, _≤_}
 use native.Mathlib.Numerals.{add-one}
 use native.Mathlib.Omega.{arith}
 use mathlib.Core.Path.{_≡_, refl, ap, _∙_, subst}
-use mathlib.Core.Bool.{true, _&&_, _||_}
+use mathlib.Core.Bool.{true, _&&_}
 use mathlib.Core.List.{List, [], _∷_, _++_}
-use lib.Dec.{eqb, leb}
+use lib.Dec.{leb}
 use lib.ListN.{length}
 use borrow.Author.Tests.{leb-true}
 use Rattle.texts.specs.Choice.{both-true}
@@ -14,12 +14,12 @@ use Rattle.texts.specs.Lists.{every, from}
 use Rattle.texts.specs.Text.{ascii, isWord, word-short, isPhone}
 use Rattle.records.specs.Records.{recordAt, putRecord, length-putRecord, putRecord-same, putRecord-other}
 use Rattle.records.specs.Chain.{All, endOf}
+use Rattle.versions.specs.Versions.{isStress}
 use Rattle.items_spec.specs.Item.{Item, item, itemOf, isSource, isWordItem, isSyllableItem, isPhoneItem, fits, isItem}
 use Rattle.items_spec.specs.Laws.Written.{length-item, item-back, item-clean}
 use Rattle.utterance_spec.specs.Tree.{Syllable, Word, SyllableAt, phonesIn}
 use Rattle.utterance_spec.specs.Sheet.{at}
 use Rattle.utterance_spec.specs.Append.{headOr, numbered, phoneItems, syllableItems, wordItems, putItems, isSyllable, isSaid}
-use Rattle.utterance_spec.specs.Laws.Places.{Filled}
 use Rattle.utterance_spec.specs.Laws.Said.{Are}
 
 -- items whose texts have their place and that fit their kind
@@ -31,19 +31,6 @@ good-append : (is js : List Item) → Good is → Good js → Good (is ++ js)
 good-append [] js h k = k
 good-append (i ∷ is) js h k = (h .0, h .1, good-append is js (h .2) k)
 
--- a syllable that may be said: its stress, a phone, its phones
-parts : (y : Syllable) → isSyllable y ≡ true → ((eqb (y .stress) 48 || eqb (y .stress) 49) ≡ true) × (1 ≤ length (y .phones)) × (every isPhone (y .phones) ≡ true)
-unfolding isSyllable
-parts y h =
-    let a = both-true ((eqb (y .stress) 48 || eqb (y .stress) 49) && leb 1 (length (y .phones))) (every isPhone (y .phones)) h in
-    let b = both-true (eqb (y .stress) 48 || eqb (y .stress) 49) (leb 1 (length (y .phones))) (a .0) in
-    (b .0, leb-true 1 (length (y .phones)) (b .1), a .1)
-
-pub said-filled : (ys : List Syllable) → every isSyllable ys ≡ true → Filled ys
-unfolding every
-said-filled [] h = tt
-said-filled (y ∷ ys) h = let b = both-true (isSyllable y) (every isSyllable ys) h in (parts y (b .0) .1, said-filled ys (b .1))
-
 -- the items of what may be said
 phones-good : (y q a : ℕ) (xs : List ℕ) (ps : List (List ℕ)) → every isPhone ps ≡ true → Good (phoneItems y q a xs ps)
 unfolding phoneItems every isPhone fits isPhoneItem
@@ -54,32 +41,32 @@ phones-good y q a (x ∷ xs) (p ∷ ps) h =
     let l = leb-true (length p) 15 (both-true (leb (length p) 15) (ascii p) (b .0) .0) in
     (omega arith, b .0, phones-good y x a xs ps (b .1))
 
-syllables-good : (w q : ℕ) (ss : List SyllableAt) (ys : List Syllable) → every isSyllable ys ≡ true → Good (syllableItems w q ss ys)
-unfolding syllableItems every fits isSyllableItem
-syllables-good w q [] ys h = tt
-syllables-good w q (s ∷ ss) [] h = tt
-syllables-good w q (s ∷ ss) (y ∷ ys) h =
-    let b = both-true (isSyllable y) (every isSyllable ys) h in
-    let p = parts y (b .0) in (
+syllables-good : (v w q : ℕ) (ss : List SyllableAt) (ys : List Syllable) → every (isSyllable v) ys ≡ true → Good (syllableItems w q ss ys)
+unfolding syllableItems every fits isSyllable isSyllableItem
+syllables-good v w q [] ys h = tt
+syllables-good v w q (s ∷ ss) [] h = tt
+syllables-good v w q (s ∷ ss) (y ∷ ys) h =
+    let b = both-true (isStress v (y .stress) && leb 1 (length (y .phones)) && every isPhone (y .phones)) (every (isSyllable v) ys) h in
+    let p = both-true (isStress v (y .stress) && leb 1 (length (y .phones))) (every isPhone (y .phones)) (b .0) in (
       omega arith,
-      rw (p .0),
+      refl,
       good-append (phoneItems (s .at) q (headOr 0 (phonesIn ss)) (s .phones) (y .phones)) (syllableItems w (endOf q (s .phones)) ss ys)
-          (phones-good (s .at) q (headOr 0 (phonesIn ss)) (s .phones) (y .phones) (p .2)) (syllables-good w (endOf q (s .phones)) ss ys (b .1)),
+          (phones-good (s .at) q (headOr 0 (phonesIn ss)) (s .phones) (y .phones) (p .1)) (syllables-good v w (endOf q (s .phones)) ss ys (b .1)),
     )
 
-pub said-parts : (w : Word) → isSaid w ≡ true
-    → (isWord (w .text) ≡ true) × (isSource (w .source) ≡ true) × (every isSyllable (w .syllables) ≡ true)
+pub said-parts : (v : ℕ) (w : Word) → isSaid v w ≡ true
+    → (isWord (w .text) ≡ true) × (isSource (w .source) ≡ true) × (every (isSyllable v) (w .syllables) ≡ true)
 unfolding isSaid
-said-parts w h =
-    let a = both-true (isWord (w .text) && isSource (w .source)) (every isSyllable (w .syllables)) h in
+said-parts v w h =
+    let a = both-true (isWord (w .text) && isSource (w .source)) (every (isSyllable v) (w .syllables)) h in
     let b = both-true (isWord (w .text)) (isSource (w .source)) (a .0) in
     (b .0, b .1, a .1)
 
-pub word-good : (n q : ℕ) (w : Word) → isSaid w ≡ true → Good (wordItems n q w)
+pub word-good : (v n q : ℕ) (w : Word) → isSaid v w ≡ true → Good (wordItems n q w)
 unfolding wordItems fits isWordItem
-word-good n q w h =
-    let b = said-parts w h in
-    (word-short (w .text) (b .0), rw (b .0, b .1), syllables-good n q (numbered (n + 1) (w .syllables)) (w .syllables) (b .2))
+word-good v n q w h =
+    let b = said-parts v w h in
+    (word-short (w .text) (b .0), rw (b .0, b .1), syllables-good v n q (numbered (n + 1) (w .syllables)) (w .syllables) (b .2))
 
 -- these items stand whole at these places
 abbrev pub Wrote : List ℕ → List ℕ → List Item → Type 0

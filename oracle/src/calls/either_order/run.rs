@@ -101,7 +101,7 @@ fn half<S: Side>(
         side.left(&calls.lookup, &lookup::Input::new(scene.clone(), wanted.clone(), *room))
     };
     let found = input.lookups.iter().map(&mut lookup).collect::<Result<_, _>>()?;
-    let mut sheet = sheets::new(&[0; ITEM * (ITEMS + 1)]);
+    let mut sheet = sheets::new(&[0; ITEM * (ITEMS + 1)], 1);
     let mut say = |wanted: &Wanted| {
         let (scene, trees) = (scene.clone(), input.trees.clone());
         let word = say_word::Input::new(sheet.clone(), scene, trees, wanted.clone());

@@ -58,7 +58,7 @@ impl Pool {
         if random.once_in(8) {
             line.extend_from_slice(b"# : zz");
         }
-        if random.once_in(6) {
+        if random.once_in(9) {
             line.insert(random.below(line.len() + 1), random.pick_byte(b"::\"\"\x1c\x1c\x0b\r\t#"));
         }
         // the words and names may hold an end of a line, or a high byte in a tag

@@ -1,12 +1,14 @@
 //! The book beside a list of calls: the papers and the original, which has its own entries, the text of the latest
-//! accepted first step, and the words of the sheet. For the exact entries of each word it has an original more.
+//! accepted first step, and the version and the words of the sheet. For the exact entries of each word it has an original
+//! more; the words of a sheet of version 2 it says with each of two digits in the place of every "2".
 
 use super::run::Side;
 use super::state::State;
 use super::{Act, Sections, CALLS};
 use crate::prelude::*;
+use crate::scene::with_digit;
 use crate::sheets::Reading;
-use crate::spoken::Word;
+use crate::spoken::{Said, Word};
 use original::lexicon::probe;
 use std::collections::BTreeMap;
 use std::mem::take;
@@ -20,7 +22,11 @@ pub struct Book<'a> {
     pending: Vec<u8>,
     /// The row of a second step that came now.
     accept: &'static str,
+    /// The version of the sheet.
+    version: u8,
     sheet: Sheet,
+    /// The words of earlier sheets, with their versions and as they were said.
+    earlier: Vec<(u8, Wanted, Word)>,
     met: &'a mut Met,
     /// Whether a text stopped behind lines that it took.
     stops: bool,
@@ -41,23 +47,39 @@ pub struct Sheet {
     parts: usize,
     /// Whether a word came behind a text that stopped behind lines that it took.
     behind_stop: bool,
+    /// Whether a new sheet was refused while there were words, and whether a word came behind it.
+    kept: bool,
+    behind_kept: bool,
 }
 
 impl<'a> Book<'a> {
-    pub fn new(sections: &'a Sections, met: &'a mut Met) -> Book<'a> {
+    pub fn new(sections: &'a Sections, version: u8, met: &'a mut Met) -> Book<'a> {
         let table = &sections.table;
-        let entries = table.names.as_ref().map(|_| table.original().clone());
-        let (exact, pending, sheet) = (BTreeMap::new(), vec![], Sheet::default());
-        let accept = "accept: right away";
-        Book { sections, entries, exact, pending, accept, sheet, met, stops: false, refused: false }
+        Book {
+            sections,
+            entries: table.names.as_ref().map(|_| table.original().clone()),
+            exact: BTreeMap::new(),
+            pending: vec![],
+            accept: "accept: right away",
+            version,
+            sheet: Sheet::default(),
+            earlier: vec![],
+            met,
+            stops: false,
+            refused: false,
+        }
     }
 
     /// A call that was not refused. The words before an add saw the old entries.
     fn take(&mut self, act: &Act) -> Result<(), String> {
         match act {
-            Act::NewSheet => return Ok(()),
+            Act::NewSheet(version) => {
+                self.version = u8::try_from(*version).map_err(|_| "a version that is not known")?;
+                return Ok(());
+            }
             Act::SayWord(wanted) => {
                 self.sheet.behind_stop |= self.stops;
+                self.sheet.behind_kept |= self.sheet.kept;
                 self.sheet.wanted.push(wanted.clone());
                 return Ok(());
             }
@@ -127,8 +149,7 @@ impl<'a> Book<'a> {
         for words in pending.chunk_by(alike) {
             let exact = self.exact.get(&words[0].word).map_or(&[][..], probe::added);
             let seen = [exact, probe::added(entries)].concat();
-            let lexicon = probe::with_added(self.sections.lexicon.original(), seen);
-            let said = spoken::say(&lexicon, self.sections.trees.original(), words)?;
+            let said = said(self.sections, self.version, seen, words)?;
             if said.words.iter().any(|word| !word.syllables.is_empty()) {
                 self.sheet.strings.push(said.phone_string);
             }
@@ -162,6 +183,11 @@ impl Side for Book<'_> {
         let outcome = expected.outcome?;
         if let Some(act) = act {
             let accepted = outcome.answer.refusal == 0;
+            if let Act::NewSheet(version) = act {
+                let words = !self.sheet.wanted.is_empty();
+                self.met.all(new_sheet(self.version.into(), *version, accepted, words));
+                self.sheet.kept |= words && !accepted;
+            }
             let name = format!("{}: {}", C::NAME, expected.row);
             let row = CALLS.iter().copied().flatten().find(|row| **row == name);
             self.met.row(row.unwrap_or_else(|| panic!("the table has no row {name}")));
@@ -186,16 +212,37 @@ impl Side for Book<'_> {
         self.say()?;
         self.met.row("phone_string: at an utterance's end");
         self.met.all(utterance(&self.sheet));
-        let Sheet { said, strings, .. } = take(&mut self.sheet);
-        if sheets::reading(&state.sheet) != Some(Reading::of(&said)) {
+        self.met.all(in_version(self.version, &self.sheet, &self.earlier));
+        let Sheet { wanted, said, strings, .. } = take(&mut self.sheet);
+        if sheets::reading(&state.sheet) != Some(Reading::of(self.version, &said)) {
             return Err("the original says otherwise word by word than in a row".into());
         }
+        let words = wanted.into_iter().zip(said);
+        self.earlier.extend(words.map(|(wanted, word)| (self.version, wanted, word)));
         if !self.has_entries(&state.store)? {
             return Err("the original's entries are not the store's".into());
         }
         let phones = strings.join(" ").into_bytes();
         Ok((Answer::accepted(0, phones.len()), phones))
     }
+}
+
+/// Words in one utterance by the original with these entries, on a sheet of a version.
+fn said(
+    Sections { lexicon, trees, .. }: &Sections,
+    version: u8,
+    seen: Vec<probe::Added>,
+    words: &[Wanted],
+) -> Result<Said, String> {
+    if version == 1 {
+        let lexicon = probe::with_added(lexicon.original(), seen);
+        return spoken::say(&lexicon, trees.original(), words);
+    }
+    let seen: Vec<Entry> = seen.iter().map(|added| Peers::Ordinary.entry(added)).collect();
+    stresses::of_both(|digit| {
+        let held = with_digit(lexicon, &seen.iter().collect::<Vec<_>>(), digit);
+        spoken::say(&held.reader, trees.with_digit(digit).original(), words)
+    })
 }
 
 /// What a second step met, and what met the two of them.
@@ -214,6 +261,37 @@ rows! { pub ROWS:
         "say_word: place told" => answer.second > 0,
         "say_word: '#' in a found word" => untold && answer.refusal == 0,
         "say_word: '#' in a refused word" => untold && answer.refusal > 0,
+    ]
+
+    /// What a new sheet of a version met on a sheet of another, with words or without.
+    new_sheet(old: u32, new: u32, accepted: bool, words: bool) [
+        "new sheet that changes the version" => accepted && old != new,
+        "new sheet that keeps the version" => accepted && old == new,
+        "new sheet refused by 15, the words stay" => !accepted && words,
+        "new sheet refused by 15 on a sheet without words" => !accepted && !words,
+        "new sheet refused by 15 whose lowest byte is the version" => !accepted && old == new % 256,
+        "new sheet refused by 15 whose lowest byte is the other" =>
+            !accepted && old != new % 256 && sheets::is_version(new % 256),
+    ]
+
+    /// What the version of a sheet met, beside the words of earlier sheets.
+    in_version(version: u8, sheet: &Sheet, earlier: &[(u8, Wanted, Word)]) {
+        let secondary = sheet.said.iter().flat_map(|word| &word.syllables).any(|s| s.stress == b'2');
+        let whole = sheet.said.iter().flat_map(Word::phones).any(|phone| phone.ends_with(b"2"));
+        let otherwise = |(wanted, word): (&Wanted, &Word)| {
+            let other = |(old, same, before): &(u8, Wanted, Word)| {
+                *old != version && same == wanted && before.syllables != word.syllables
+            };
+            earlier.iter().any(other)
+        };
+    } [
+        "utterance in version 1" => version == 1,
+        "utterance in version 2" => version == 2,
+        "utterance in version 1 with a phone that ends in 2" => version == 1 && whole,
+        "utterance in version 2 with a secondary stress" => version == 2 && secondary,
+        "word that is said otherwise in the other version" =>
+            sheet.wanted.iter().zip(&sheet.said).any(otherwise),
+        "word behind a new sheet refused by 15" => sheet.behind_kept,
     ]
 
     /// What the words of a sheet met.

@@ -22,15 +22,16 @@ pub fn list(random: &mut Random, sources: &Sources, phones: &Rc<Phones>) -> Inpu
         false => vec![random.byte() * random.below(2) as u8; len],
     };
     let pool = Pool::new(random, sources, phones);
+    let version = if pool.first { 1 } else { sheet_shapes::version(random) };
     let weights = match random.once_in(2) {
-        true => [8, 2, 1, 1, 5, 5],
-        false => [10, 4, 2, 1, 0, 0],
+        true => [8, 2, 1, 2, 5, 5],
+        false => [10, 4, 2, 2, 0, 0],
     };
     let breaks = random.once_in(6);
     let (store, sheet) = (bytes(random, SLOT * slots), bytes(random, len));
     let step = |_| Step { act: pool.act(random, &weights), broken: breaks && random.once_in(4) };
     let steps = (0..steps).map(step).collect();
-    Input { store, sheet, steps, ..sources.0.clone() }
+    Input { store, sheet, version, steps, ..sources.0.clone() }
 }
 
 /// Sections, and words around them; and how many lists they serve.
@@ -52,12 +53,15 @@ pub fn begin(random: &mut Random, phones: &Phones) -> (Sources, usize) {
     words.extend((0..random.between(1, 4)).map(|_| words::accepted(random, &trees.alphabet)));
     let sections = Sections::new(Rc::new(lexicon), Rc::new(trees));
     let broken = broken(random, &sections);
-    ((Input { sections, broken, store: vec![], sheet: vec![], steps: vec![] }, words), 8)
+    let (store, sheet, steps) = (vec![], vec![], vec![]);
+    ((Input { sections, broken, store, sheet, version: 1, steps }, words), 8)
 }
 
 /// What the calls of one list are made of; half of the lists have few words and tags, so that words come again.
 struct Pool<'a> {
     few: bool,
+    /// Whether version 1 is the only known one.
+    first: bool,
     tags: Vec<Vec<u8>>,
     all_words: &'a [Vec<u8>],
     /// The sections beside an empty store, and the words of the list.
@@ -66,7 +70,7 @@ struct Pool<'a> {
 
 impl Pool<'_> {
     fn new<'a>(random: &mut Random, sources: &'a Sources, phones: &Rc<Phones>) -> Pool<'a> {
-        let few = random.once_in(2);
+        let (few, first) = (random.once_in(2), random.once_in(2));
         let (empty, all_words) = sources;
         let (words, tags) = match few {
             true => {
@@ -79,7 +83,7 @@ impl Pool<'_> {
         let scene = Rc::new(Scene::new(&empty.sections.table, stores::new(1, 0)));
         let exact = !random.once_in(3);
         let adds = adding::Pool { scene, words, phones: phones.clone(), exact };
-        Pool { few, tags, all_words, adds }
+        Pool { few, first, tags, all_words, adds }
     }
 
     /// A call, each kind as often as its weight says.
@@ -109,7 +113,10 @@ impl Pool<'_> {
                 fill: random.byte(),
                 spare: random.once_in(20).then(|| SLOT * random.below(4) + random.below(2)),
             },
-            3 => Act::NewSheet,
+            3 => match sheet_shapes::any_version(random) {
+                2 if self.first => Act::NewSheet(1),
+                version => Act::NewSheet(version),
+            },
             4 => Act::Preview(self.adds.text(random, 32)),
             _ => Act::Accept,
         }

@@ -2,7 +2,7 @@
 
 use super::state::State;
 use super::{Act, Input, Step};
-use crate::calls::{accept_entries, add_entries, add_entry, filling, new_sheet, new_store};
+use crate::calls::{accept_entries, add_entries, add_entry, filling, new_store};
 use crate::calls::{phone_string, preview_entries, say_word};
 use crate::prelude::*;
 
@@ -26,7 +26,8 @@ pub fn run<S: Side>(input: &Input, side: &mut S) -> Result<Vec<u8>, String> {
     let mut state = State::default();
     state.call::<new_store::NewStore>(side, None, &new_store::Input::new(input.store.clone()))?;
     state.spare = state.store.clone();
-    state.call::<new_sheet::NewSheet>(side, None, &new_sheet::Input::new(input.sheet.clone()))?;
+    state.sheet = input.sheet.clone();
+    state.new_sheet(side, None, input.version.into())?;
     for step in &input.steps {
         make(input, step, &mut state, side)?;
     }
@@ -42,10 +43,7 @@ fn make<S: Side>(input: &Input, step: &Step, on: &mut State, side: &mut S) -> Re
     let lent = if breaks { &input.broken } else { &input.sections };
     let scene = |lexicon: &Rc<Lexicon>| Rc::new(S::SCENE(lexicon, on.store.clone()));
     match &step.act {
-        Act::NewSheet => {
-            on.close(side)?;
-            on.call::<new_sheet::NewSheet>(side, act, &new_sheet::Input::new(on.sheet.clone()))
-        }
+        Act::NewSheet(version) => on.renew(side, act, *version),
         Act::AddEntry(given) => {
             let input = add_entry::Input::new(scene(&lent.table), given.clone());
             on.call::<add_entry::AddEntry>(side, act, &input)

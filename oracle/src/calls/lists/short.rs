@@ -1,4 +1,5 @@
-//! The short lists: every list of up to four calls over a few of them, and over a few with both steps.
+//! The short lists: every list of up to four calls over a few of them, over a few with both steps, and over a few in both
+//! versions.
 
 use super::{Act, Input, Sections, Step};
 use crate::lexicon_edges::row;
@@ -21,7 +22,7 @@ fn add(word: &str, tag: &str, phones: &str) -> Act {
 /// One call of each answer, and words that the others change.
 fn calls() -> [Step; 10] {
     let acts = [
-        Act::NewSheet,
+        Act::NewSheet(1),
         say("a", ""),
         say("B", "n"),
         say(",", ""),
@@ -37,14 +38,29 @@ fn calls() -> [Step; 10] {
 
 /// Words with "#" that tell a place, until they are added; one of the addenda.
 fn marked() -> [Step; 5] {
-    let acts = [Act::NewSheet, say("a#B", ""), say("#", "n"), add("A#b", "", "s"), say("b##", "v")];
+    let new = Act::NewSheet(1);
+    let acts = [new, say("a#B", ""), say("#", "n"), add("A#b", "", "s"), say("b##", "v")];
+    acts.map(|act| Step { act, broken: false })
+}
+
+/// New sheets of versions that are known and of such that are not, and words that are said otherwise in another version.
+fn versions() -> [Step; 7] {
+    let acts = [
+        Act::NewSheet(1),
+        Act::NewSheet(2),
+        Act::NewSheet(257),
+        say("d", ""),
+        say("e", ""),
+        add("e", "", "ax2 s ax2"),
+        text("D:ax2 t ax0"),
+    ];
     acts.map(|act| Step { act, broken: false })
 }
 
 /// A word of each source but the runtime entries, and entries by which they are said alike.
 fn alike() -> [Step; 7] {
     let acts = [
-        Act::NewSheet,
+        Act::NewSheet(1),
         say("a", ""),
         say(",", ""),
         say("#", ""),
@@ -87,21 +103,39 @@ fn halves() -> [Step; 8] {
     acts.map(|act| Step { act, broken: false })
 }
 
-pub fn inputs() -> Vec<Input> {
-    let rows = [row("a", b'n', &[0]), row("c", b'n', &[1, 2, 1, 9])];
-    let lexicon = Rc::new(Lexicon::of(&["ey1", "t", "ax0"], &rows));
+/// What makes lists of calls, on a store of so many slots and a sheet of so many bytes.
+fn maker() -> impl Fn(Vec<Step>, usize, usize) -> Input {
+    let rows = [row("a", b'n', &[0]), row("c", b'n', &[1, 2, 1, 9]), row("d", b'n', &[3, 1, 3, 0])];
+    let lexicon = Rc::new(Lexicon::of(&["ey1", "t", "ax0", "ax2"], &rows));
     let trees = one_leaf(b"b-iy1");
     let mut cut = trees.sections.clone();
     cut.index.truncate(51);
     let sections = Sections::new(lexicon.clone(), Rc::new(trees));
     let broken = Sections::new(lexicon, Rc::new(Trees::new(cut, vec![])));
-    let list = |steps: Vec<Step>, slots: usize, len: usize| Input {
+    move |steps: Vec<Step>, slots: usize, len: usize| Input {
         sections: sections.clone(),
         broken: broken.clone(),
         store: vec![0xd1; SLOT * slots],
         sheet: vec![0x4c; len],
+        version: 1,
         steps,
-    };
+    }
+}
+
+/// Lists of sheets of both versions, with letters whose phones end in "2".
+fn in_versions(list: impl Fn(Vec<Step>, usize, usize) -> Input) -> Vec<Input> {
+    let Sections { lexicon, .. } = list(vec![], 1, ITEM).sections;
+    let sections = Sections::new(lexicon, Rc::new(one_leaf(b"iy2-b2")));
+    each! {
+        for (version, longest) in [(1, 4), (2, 3)];
+        for steps in words::every(&versions(), longest);
+        let sections = sections.clone();
+        [Input { sections, version, ..list(steps, 3, 40 * ITEM) }]
+    }
+}
+
+pub fn inputs() -> Vec<Input> {
+    let list = maker();
     let calls = calls();
     let every = each! {
         for (i, steps) in words::every(&calls, 4).into_iter().enumerate();
@@ -127,6 +161,6 @@ pub fn inputs() -> Vec<Input> {
     let exact = words::every(&exact(), 4).into_iter().enumerate();
     let exact = exact.map(|(i, steps)| list(steps, [4, 3, 2][i % 3], 40 * ITEM));
     let ends = [list(steps(&full), 1, LARGEST), list(broken, 4, 40 * ITEM)];
-    let others = marked.chain(alike).chain(halves).chain(exact);
+    let others = marked.chain(alike).chain(halves).chain(exact).chain(in_versions(&list));
     [every, lengths, ends.into(), others.collect()].concat()
 }

@@ -2,6 +2,7 @@
 
 use super::run::Side;
 use super::Act;
+use crate::calls::new_sheet::{self, NewSheet};
 use crate::prelude::*;
 use crate::sheets::Reading;
 use crate::spoken::{Syllable, Word};
@@ -44,6 +45,30 @@ impl State {
         Ok(())
     }
 
+    /// Makes its sheet a new one of a version.
+    pub fn new_sheet(
+        &mut self,
+        side: &mut impl Side,
+        act: Option<&Act>,
+        version: u32,
+    ) -> Result<(), String> {
+        let input = new_sheet::Input::new(self.sheet.clone(), version);
+        self.call::<NewSheet>(side, act, &input)
+    }
+
+    /// The same, which ends the sheet's words; one of an unknown version is refused, and they stay.
+    pub fn renew(
+        &mut self,
+        side: &mut impl Side,
+        act: Option<&Act>,
+        version: u32,
+    ) -> Result<(), String> {
+        if sheets::is_version(version) {
+            self.close(side)?;
+        }
+        self.new_sheet(side, act, version)
+    }
+
     /// The end of a sheet's words. Logs what reading it gives, if it can be read, and its phone string.
     pub fn close(&mut self, side: &mut impl Side) -> Result<(), String> {
         let (answer, phones) = side.close(self)?;
@@ -56,7 +81,7 @@ impl State {
     }
 }
 
-/// A reading as text: each word with its source and its syllables, then the phones forwards and backwards.
+/// A reading as text: the version, each word with its source and its syllables, then the phones forwards and backwards.
 fn told(reading: &Reading) -> String {
     let list = |phones: &[Vec<u8>]| {
         let phones: Vec<String> = phones.iter().map(|phone| notation::text(phone)).collect();
@@ -69,5 +94,5 @@ fn told(reading: &Reading) -> String {
     };
     let words: Vec<String> = reading.words.iter().map(word).collect();
     let (forwards, backwards) = (list(&reading.forwards), list(&reading.backwards));
-    format!("{}; {forwards}; {backwards}", words.join(", "))
+    format!("version {}: {}; {forwards}; {backwards}", reading.version, words.join(", "))
 }

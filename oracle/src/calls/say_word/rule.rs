@@ -6,18 +6,19 @@ use crate::calls::predict;
 use crate::lexicons::Compiled;
 use crate::prelude::*;
 use crate::spoken::Word;
+use crate::stresses::split;
 
-/// The phones of a word without their digits.
-pub fn bare(origin: &Origin) -> Vec<&[u8]> {
-    origin.phones.iter().map(|phone| split(phone).0).collect()
+/// The phones of a word without the digits that a version takes off.
+pub fn bare(version: u8, origin: &Origin) -> Vec<&[u8]> {
+    origin.phones.iter().map(|phone| split(version, phone).0).collect()
 }
 
-/// A phone without its digit, and the digit.
-fn split(phone: &[u8]) -> (&[u8], Option<u8>) {
-    match phone.split_last() {
-        Some((digit @ (b'0' | b'1'), bare)) => (bare, Some(*digit)),
-        _ => (phone, None),
-    }
+/// The digits of each syllable of a word.
+pub fn digits_of(version: u8, origin: &Origin, word: &Word) -> Vec<Vec<u8>> {
+    let mut rest = origin.phones.iter().map(|phone| split(version, phone).1);
+    let lengths = word.syllables.iter().map(|syllable| syllable.phones.len());
+    let own = |len: usize| rest.by_ref().take(len).flatten().collect();
+    lengths.map(own).collect()
 }
 
 /// What 01 says before the items are counted. Tells what was met on the way.
@@ -129,8 +130,8 @@ rows! { pub ROWS:
     ]
 
     /// What the phones and the syllables of an accepted word have.
-    spoken(origin: &Origin, word: &Word) {
-        let bare = bare(origin);
+    spoken(version: u8, origin: &Origin, word: &Word) {
+        let bare = bare(version, origin);
         let syllables = &word.syllables;
         let is_vowel = |phone: &Vec<u8>| phoneset::is_vowel(ascii(phone));
         let whole: Vec<&str> = origin.phones.iter().map(|phone| ascii(phone)).collect();
@@ -151,13 +152,8 @@ rows! { pub ROWS:
     ]
 
     /// What the digits of an accepted word have.
-    digits(origin: &Origin, word: &Word) {
-        let split: Vec<(&[u8], Option<u8>)> = origin.phones.iter().map(|p| split(p)).collect();
-        // the digits of each syllable
-        let mut rest = split.iter().map(|(_, digit)| *digit);
-        let lengths = word.syllables.iter().map(|syllable| syllable.phones.len());
-        let own = |len: usize| rest.by_ref().take(len).flatten().collect();
-        let parts: Vec<Vec<u8>> = lengths.map(own).collect();
+    digits(version: u8, origin: &Origin, parts: &[Vec<u8>]) {
+        let split: Vec<_> = origin.phones.iter().map(|phone| split(version, phone)).collect();
         let pairs = |pair: &[u8]| parts.iter().any(|part| part.windows(2).any(|two| two == pair));
         let with_digit = split.iter().filter(|(_, digit)| digit.is_some());
         let with_digit: Vec<&[u8]> = with_digit.map(|(bare, _)| *bare).collect();
@@ -170,7 +166,7 @@ rows! { pub ROWS:
         "1, then a syllable without a digit" => parts.windows(2).any(behind_1),
         "digit on a consonant" => with_digit.iter().any(is_consonant),
         "digit on pau" => with_digit.contains(&&b"pau"[..]),
-        "two digits, one comes off" => with_digit.iter().any(|bare| self::split(bare).1.is_some()),
+        "two digits, one comes off" => with_digit.iter().any(|b| b.ends_with(b"0") || b.ends_with(b"1")),
         "digit 2 stays" => split.iter().any(|(bare, _)| bare.ends_with(b"2")),
     ]
 

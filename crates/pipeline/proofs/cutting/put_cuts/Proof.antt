@@ -13,15 +13,15 @@ use Rattle.pipeline_spec.specs.Laws.Cuts.{cuts-turn, cuts-end}
 use Rattle.pipeline.proofs.cutting.put_cuts.Tie as tie
 
 abbrev Inv-loop : tie.InvT-loop
-Inv-loop dst₀ phones marks n last₀ i₀ dst last i =
+Inv-loop version dst₀ phones marks n last₀ i₀ dst last i =
     (n ≡ length phones / 16)
     × (i ≤ n)
     × (length dst ≡ length dst₀)
-    × (cutsOf 48 marks (phonesOf phones) ≡ take i dst ++ cutsOf last (drop i marks) (drop i (phonesOf phones)))
+    × (cutsOf version 48 marks (phonesOf phones) ≡ take i dst ++ cutsOf version last (drop i marks) (drop i (phonesOf phones)))
     × (drop i dst ≡ drop i dst₀)
 
 abbrev μ-loop : tie.MeasureT-loop
-μ-loop dst₀ phones marks n last₀ i₀ dst last i = n - i
+μ-loop version dst₀ phones marks n last₀ i₀ dst last i = n - i
 
 loop-holds : tie.Need-loop-holds Inv-loop μ-loop
 loop-holds c = search needs
@@ -60,8 +60,8 @@ loop-again c =
     let ps = phonesOf (a .phones .now) in
     let h : l .i < length ps = rw length-phonesOf (omega arith) in
     let k : l .i < length (a .marks .now) = omega (arith, c .before .before .before .before .before .before .before .before .before .before .before .pre .1) in
-    let es = c .before .before .before .before .stressed .ensures ∙ ap (λ (p : List ℕ). stressed (l .last) p) (c .before .before .before .before .before .phone .ensures) in
-    let t = cuts-turn (l .last) (a .marks .now) ps (l .i) k h (c .before .before .before .before .stressed .result) es in (
+    let es = c .before .before .before .before .stressed .ensures ∙ ap (λ (p : List ℕ). stressed (a .version) (l .last) p) (c .before .before .before .before .before .phone .ensures) in
+    let t = cuts-turn (a .version) (l .last) (a .marks .now) ps (l .i) k h (c .before .before .before .before .stressed .result) es in (
       l .inv .0,
       omega arith,
       simp length-set (l .inv .2),
@@ -79,7 +79,7 @@ returns c =
     let ps = phonesOf (a .phones .now) in
     let e : l .i ≡ length (a .phones .now) / 16 = omega arith in
     let h : length ps ≤ l .i = rw length-phonesOf (omega arith) in
-    rw (← e) (written-all _ (l .dst) (a .dst .now) (l .i) (l .inv .3 ∙ ap (λ (m : List ℕ). take (l .i) (l .dst) ++ m) (cuts-end (l .last) (a .marks .now) ps (l .i) h)) (l .inv .4))
+    rw (← e) (written-all _ (l .dst) (a .dst .now) (l .i) (l .inv .3 ∙ ap (λ (m : List ℕ). take (l .i) (l .dst) ++ m) (cuts-end (a .version) (l .last) (a .marks .now) ps (l .i) h)) (l .inv .4))
 
 pub put-cuts-spec : {M : Type 1} → statement M
 put-cuts-spec =

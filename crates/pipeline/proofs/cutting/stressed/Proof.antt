@@ -9,10 +9,12 @@ split-stress-requires : tie.Need-split-stress-requires
 split-stress-requires c κs = search needs
 
 returns : tie.Need-returns
-returns c = stress-kept (c .before .before .before .args .before) (c .before .before .before .args .phone .now) (sym (c .before .split-stress .ensures .1) ∙ c .if1 .taken)
+returns c = let a = c .before .before .before .args in stress-kept (a .version) (a .before) (a .phone .now) (sym (c .before .split-stress .ensures .1) ∙ c .if1 .taken)
 
 returns-2 : tie.Need-returns-2
-returns-2 c = c .before .split-stress .ensures .1 ∙ stress-own (c .before .before .before .args .before) (c .before .before .before .args .phone .now) (λ e. c .if1 .left (c .before .split-stress .ensures .1 ∙ e))
+returns-2 c =
+    let a = c .before .before .before .args in
+    c .before .split-stress .ensures .1 ∙ stress-own (a .version) (a .before) (a .phone .now) (λ e. c .if1 .left (c .before .split-stress .ensures .1 ∙ e))
 
 pub stressed-spec : {M : Type 1} → statement M
 stressed-spec = tie.close (tie.spec split-stress-requires returns returns-2)

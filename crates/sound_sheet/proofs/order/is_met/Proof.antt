@@ -1,4 +1,4 @@
--- `sound_sheet::is_met` meets its contract: an item that is ill placed decides, else its phone and its tie. Assumes nothing.
+-- `sound_sheet::is_met` meets its contract: an item that is ill placed decides, else its stress, its phone and its tie. Assumes nothing.
 use borrow.Author.Needs.{needs}
 use Rattle.sound_sheet.proofs.order.is_met.Statement.{statement}
 use Prim.Native.Nat.{_<_}
@@ -24,21 +24,21 @@ returns : tie.Need-returns
 unfolding isMet
 returns c = rw (sym (c .before .is-placed .ensures) ∙ not-true (c .before .is-placed .result) (c .if1 .taken))
 
-is-full-requires : tie.Need-is-full-requires
-is-full-requires c κs = in-sheet c
+is-sung-requires : tie.Need-is-sung-requires
+is-sung-requires c κs = in-sheet c
 
 returns-2 : tie.Need-returns-2
 unfolding isMet
-returns-2 c = rw (well-placed (c .before .before), sym (c .before .is-full .ensures) ∙ not-true (c .before .is-full .result) (c .if2 .taken))
+returns-2 c = rw (well-placed (c .before .before), sym (c .before .is-sung .ensures) ∙ not-true (c .before .is-sung .result) (c .if2 .taken))
 
 is-tied-requires : tie.Need-is-tied-requires
 is-tied-requires c κs = (c .before .before .before .before .before .pre .1, in-sheet (c .before .before))
 
 returns-3 : tie.Need-returns-3
 unfolding isMet
-returns-3 c = rw (well-placed (c .before .before .before), sym (c .before .before .is-full .ensures) ∙ not-false (c .before .before .is-full .result) (c .before .if2 .left)) (c .is-tied .ensures)
+returns-3 c = rw (well-placed (c .before .before .before), sym (c .before .before .is-sung .ensures) ∙ not-false (c .before .before .is-sung .result) (c .before .if2 .left)) (c .is-tied .ensures)
 
 pub is-met-spec : {M : Type 1} → statement M
 is-met-spec =
     tie.close
-    (tie.spec is-placed-requires returns is-full-requires returns-2 is-tied-requires returns-3)
+    (tie.spec is-placed-requires returns is-sung-requires returns-2 is-tied-requires returns-3)
