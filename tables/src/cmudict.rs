@@ -17,7 +17,7 @@ const CONSONANTS: [&str; 24] = [
     "Y", "Z", "ZH",
 ];
 
-/// The reduced vowel, and what flite's tables and the English ones write for it.
+/// The reduced vowel, and what the English tables write for it.
 const REDUCED: (&str, &str) = ("AH0", "ax0");
 
 /// What a comment line begins with, and a comment at a line's end.
