@@ -1,5 +1,8 @@
 // What a call gives back (01, What a call gives back): why it was refused, or its answer; and the
 // one form of numbers in which every answer leaves the library.
+
+#![tactic(auto)]
+
 ghost use Rattle.std.specs.Prelude.{◌≡◌};
 ghost use Rattle.answers.specs.Told.{refusal_number, source_number, refused as refused_by, accepted as accepted_as, accepted_with, told_verdict, told_looked, told_predicted, told_marked, told_done, told_lines, told_previewed, told_said, told_joined, no_settings, told_shown};
 

@@ -1,4 +1,7 @@
 // Little-endian fields and records of a fixed width in lent bytes. A read past the end gives zeros.
+
+#![tactic(auto)]
+
 ghost use Rattle.std.specs.Prelude.{◌≡◌, ◌+◌, ◌*◌, ◌<◌, ◌≤◌, length, get_or, take, drop, replicate};
 ghost use Rattle.std.proofs.Math.Seq.{paste};
 ghost use Rattle.texts.specs.Lists.{every};

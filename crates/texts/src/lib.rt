@@ -1,4 +1,6 @@
 // Byte strings: case folding, blanks, equality, bytewise order, and what may be a word or a tag.
+#![tactic(auto)]
+
 ghost use Rattle.std.specs.Prelude.{◌≡◌, ◌&&◌, ◌<◌, get_or, leb};
 ghost use Rattle.texts.specs.Choice.{bit};
 ghost use Rattle.texts.specs.Lists.{place};
