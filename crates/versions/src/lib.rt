@@ -1,4 +1,7 @@
 // The versions of a sheet (02, S-9), and the bytes that are stresses in each.
+
+#![tactic(auto)]
+
 ghost use Rattle.std.specs.Prelude.{◌≡◌};
 ghost use Rattle.versions.specs.Versions.{is_sheet_version, is_stress};
 
