@@ -1,0 +1,287 @@
+#!/usr/bin/env python3
+"""Moves the theorems of crates from specs/ to proofs/, statements and proofs unchanged, once, behind tools/respell.py.
+
+usage: tools/to_proofs.py CRATE ..   at the top of the repository
+
+A must-fail edit of a definition is tried only if specs/ can still be read with it, so what rests on the definition stands in proofs/. What
+moves is what has no mark `abbrev` or `unfoldable` and is no type, unless a definition names it. Imports of all crates follow.
+docs/MOVED.txt gets each statement that moved.
+"""
+
+import glob
+import os
+import re
+import sys
+
+ID = r"[A-Za-z_\u0370-\u03ff\u2070-\u209fℕℤ][\w'₀-₉-]*"
+START = re.compile(r"(?:(?:pattern|unfoldable|abbrev|pub)\s+)*(?:(record|data|module|open)\b|(" + ID + r")(?=\s*:|\s*$))")
+
+
+def read(p):
+    with open(p, encoding="utf-8") as f:
+        return f.read()
+
+
+def write(p, t):
+    os.makedirs(os.path.dirname(p), exist_ok=True)
+    with open(p, "w", encoding="utf-8") as f:
+        f.write(t)
+
+
+class Decl:
+    def __init__(self, lines):
+        self.lines = lines
+        first = next(l for l in lines if not l.lstrip().startswith("--"))
+        m = START.match(first.strip())
+        self.word = m.group(1) if m else None
+        self.name = m.group(2) if m else None
+        if self.word in ("record", "data"):
+            self.name = re.match(r"\s*(?:(?:pub|abbrev)\s+)*(?:record|data)\s+(\S+)", first).group(1)
+        marks = first.strip().split(" : ")[0]
+        self.marked = bool(re.match(r"(?:pub\s+)?(?:pattern|unfoldable|abbrev)\b", marks)) or self.word in ("record", "data")
+        self.blocks = None
+        self.stays = self.marked
+
+    def text(self):
+        return "\n".join(self.lines)
+
+    def names(self):
+        t = re.sub(r"--[^\n]*|\"[^\"\n]*\"", "", self.text())
+        return set(re.findall(ID, t))
+
+
+def blocks(lines, depth=0):
+    """Declarations at this indentation: comments go with what follows them."""
+    out, cur = [], []
+    pad = " " * depth
+    begun = False
+    for l in lines:
+        own = l.startswith(pad) and len(l) > depth and l[depth] != " "
+        if own and begun:
+            body = l[depth:]
+            m = START.match(body)
+            prev = next((x for x in reversed(cur) if x.strip()), "")
+            name = cur_name(cur, depth)
+            fresh = body.startswith("--") and prev.strip() != "" and not prev.strip().startswith("--")
+            sig = m and (m.group(1) or (" : " in body or body.rstrip().endswith(":") or body.strip() == m.group(2) or re.match(r"(pub|abbrev|unfoldable)\b", body)))
+            if fresh or (sig and not body.startswith("unfolding") and not (name and re.match(re.escape(name) + r"(?![\w'-]) (?!:)", body)) and not prev.strip().startswith("--")):
+                out.append(cur)
+                cur = []
+        cur.append(l)
+        if l.strip():
+            begun = True
+    if any(x.strip() for x in cur):
+        out.append(cur)
+    return [strip(b) for b in out]
+
+
+def cur_name(cur, depth):
+    for l in cur:
+        if l.strip() and not l.strip().startswith("--"):
+            m = START.match(l.strip())
+            return m.group(2) if m else None
+    return None
+
+
+def strip(b):
+    while b and not b[0].strip():
+        b = b[1:]
+    while b and not b[-1].strip():
+        b = b[:-1]
+    return b
+
+
+class File:
+    def __init__(self, path):
+        self.path = path
+        lines = read(path).split("\n")
+        i = 0
+        self.head = []
+        while i < len(lines) and lines[i].startswith("--"):
+            self.head.append(lines[i])
+            i += 1
+        self.uses, rest = [], []
+        for l in lines[i:]:
+            if re.match(r"(pub )?use ", l) and not any(x.strip() for x in rest):
+                self.uses.append(l)
+            else:
+                rest.append(l)
+        self.items = []
+        for b in blocks(rest):
+            first = next((l for l in b if not l.lstrip().startswith("--")), None)
+            if first is None:
+                continue
+            if re.match(r"module\b", first):
+                k = next(j for j, l in enumerate(b) if re.search(r"\bwhere$", l))
+                self.items.append((b[: k + 1], [Decl(x) for x in blocks(b[k + 1 :], 2) if any(not l.lstrip().startswith("--") for l in x)]))
+            else:
+                self.items.append((None, [Decl(b)]))
+
+    def decls(self):
+        return [d for _, ds in self.items for d in ds]
+
+    def part(self, stays):
+        out = []
+        for head, ds in self.items:
+            keep = [d for d in ds if d.stays == stays]
+            if keep:
+                out.append("\n".join(head) + "\n" + "\n\n".join(d.text() for d in keep) if head else "\n\n".join(d.text() for d in keep))
+        return "\n\n".join(out)
+
+
+def pruned(uses, body, drop=()):
+    """The use lines, with the names that the body has."""
+    code = re.sub(r"--[^\n]*|\"[^\"\n]*\"", "", body)
+    words = set(re.findall(ID, code))
+    out = []
+    for u in uses:
+        m = re.match(r"((?:pub )?use \S+\.\{)(.*)\}$", u)
+        if not m:
+            out.append(u)
+            continue
+        keep = []
+        for n in m.group(2).split(", "):
+            as_ = n.split(" as ")[-1].strip()
+            core = as_.replace("◌", " ").split()
+            if u.startswith("pub use") or all(c in code for c in core) and (not re.fullmatch(ID, as_) or as_ in words):
+                keep.append(n)
+        if keep:
+            out.append(m.group(1) + ", ".join(keep) + "}")
+    return out
+
+
+def main(crates):
+    moved_all, listing = {}, []
+    for crate in crates:
+        top = f"crates/{crate}/specs"
+        files = {os.path.relpath(p, top)[:-5].replace("/", "."): File(p) for p in sorted(glob.glob(top + "/**/*.antt", recursive=True)) if os.path.basename(p) != "Lib.antt" and not is_node(p)}
+        named = set()
+        while True:
+            names = set()
+            for f in files.values():
+                for head, ds in f.items:
+                    for d in ds:
+                        if d.stays:
+                            names |= d.names() - {d.name}
+                            for l in head or []:
+                                names |= set(re.findall(ID, l))
+            more = [d for f in files.values() for d in f.decls() if not d.stays and d.name in names]
+            if not more:
+                break
+            for d in more:
+                d.stays = True
+        moved = {}
+        for mod, f in files.items():
+            for d in f.decls():
+                if not d.stays:
+                    moved.setdefault(mod, []).append(d.name)
+                    listing.append((crate, mod, d))
+        for mod, f in files.items():
+            if mod not in moved:
+                continue
+            rel = mod.replace(".", "/") + ".antt"
+            stay, go = f.part(True), f.part(False)
+            own = [d.name for d in f.decls() if d.stays]
+            if stay.strip():
+                write(f"{top}/{rel}", "\n".join(f.head + pruned(f.uses, stay)) + "\n\n" + stay + "\n")
+                head = ["-- Theorems about `" + f"specs/{rel}`: " + f.head[0][3:]] + f.head[1:]
+                extra = [f"use Rattle.{crate}.specs.{mod}.{{{', '.join(inner(own, f))}}}"] if own else []
+            else:
+                os.remove(f"{top}/{rel}")
+                head, extra = f.head, []
+            write(f"crates/{crate}/proofs/{rel}", "\n".join(head + pruned(f.uses + extra, go)) + "\n\n" + go + "\n")
+        moved_all[crate] = moved
+        nodes(crate)
+        # in a file that stays whole, or of another crate, imports follow
+    for p in glob.glob("crates/*/specs/**/*.antt", recursive=True) + glob.glob("crates/*/proofs/**/*.antt", recursive=True):
+        t = read(p)
+        n = follow(t, moved_all)
+        if n != t:
+            write(p, n)
+    with open("docs/MOVED.txt", "a", encoding="utf-8") as f:
+        for crate, mod, d in listing:
+            f.write(f"{crate}: specs/{mod.replace('.', '/')}.antt -> proofs/: {statement(d)}\n")
+    print(f"to_proofs: {len(listing)} theorems of {len(crates)} crates")
+
+
+def inner(own, f):
+    """Types with their constructors and fields are imported as they were: by the type's module."""
+    return own
+
+
+def statement(d):
+    lines = [l for l in d.lines if not l.lstrip().startswith("--")]
+    name = d.name
+    out = []
+    for l in lines:
+        if out and (re.match(r"\s*unfolding\b", l) or re.match(r"\s*" + re.escape(name) + r"(?![\w'-])(?! :)", l)):
+            break
+        out.append(l.strip())
+    return " ".join(out)
+
+
+def is_node(p):
+    return all(re.match(r"(pub )?mod |--|$", l.strip()) for l in read(p).split("\n"))
+
+
+def nodes(crate):
+    """Lib.antt and node files: of specs/ without what is gone, of proofs/ with what is there."""
+    for p in glob.glob(f"crates/{crate}/specs/**/*.antt", recursive=True):
+        if os.path.basename(p) != "Lib.antt" and not is_node(p):
+            continue
+        base = os.path.dirname(p) if os.path.basename(p) == "Lib.antt" else p[:-5]
+        out = []
+        for l in read(p).split("\n"):
+            m = re.match(r"(?:pub )?mod (\S+)", l)
+            if m and not os.path.exists(f"{base}/{m.group(1)}.antt"):
+                continue
+            out.append(l)
+        write(p, "\n".join(out))
+    # a node with no module left goes
+    again = True
+    while again:
+        again = False
+        for p in glob.glob(f"crates/{crate}/specs/**/*.antt", recursive=True):
+            if is_node(p) and not re.search(r"(?m)^(pub )?mod ", read(p)):
+                os.remove(p)
+                again = True
+                name = os.path.basename(p)[:-5]
+                up = os.path.dirname(p)
+                node = up + "/Lib.antt" if up.endswith("/specs") else up + ".antt"
+                if os.path.exists(node):
+                    write(node, "\n".join(l for l in read(node).split("\n") if not re.match(r"(?:pub )?mod " + name + r"$", l)))
+        for d, _, fs in os.walk(f"crates/{crate}/specs", topdown=False):
+            if not os.listdir(d) and not d.endswith("/specs"):
+                os.rmdir(d)
+    root = f"crates/{crate}/proofs"
+    for p in sorted(glob.glob(root + "/**/*.antt", recursive=True)):
+        rel = os.path.relpath(p, root)[:-5].split("/")
+        if rel[-1] == "Lib" or rel[-1] in ("Answers", "Invariants", "Proof") or not rel[-1][0].isupper():
+            continue
+        for k in range(len(rel)):
+            node = root + "/Lib.antt" if k == 0 else root + "/" + "/".join(rel[:k]) + ".antt"
+            t = read(node) if os.path.exists(node) else {0: "-- Theorems and laws.\n"}.get(k, "-- Laws that only proofs use.\n")
+            if not re.search(rf"(?m)^(?:pub )?mod {rel[k]}$", t):
+                write(node, t.rstrip("\n") + f"\npub mod {rel[k]}\n")
+
+
+def follow(t, moved_all):
+    out = []
+    for l in t.split("\n"):
+        m = re.match(r"((?:pub )?use )Rattle\.(\w+)\.specs\.([\w.]+?)\.\{(.*)\}$", l)
+        if not m or m.group(2) not in moved_all or m.group(3) not in moved_all[m.group(2)]:
+            out.append(l)
+            continue
+        gone = set(moved_all[m.group(2)][m.group(3)])
+        names = m.group(4).split(", ")
+        stay = [n for n in names if n.split(" as ")[0].strip() not in gone]
+        go = [n for n in names if n.split(" as ")[0].strip() in gone]
+        if stay:
+            out.append(f"{m.group(1)}Rattle.{m.group(2)}.specs.{m.group(3)}.{{{', '.join(stay)}}}")
+        if go:
+            out.append(f"{m.group(1)}Rattle.{m.group(2)}.proofs.{m.group(3)}.{{{', '.join(go)}}}")
+    return "\n".join(out)
+
+
+if __name__ == "__main__":
+    main(sys.argv[1:])
