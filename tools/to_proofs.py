@@ -64,7 +64,7 @@ def blocks(lines, depth=0):
             name = cur_name(cur, depth)
             fresh = body.startswith("--") and prev.strip() != "" and not prev.strip().startswith("--")
             sig = m and (m.group(1) or (" : " in body or body.rstrip().endswith(":") or body.strip() == m.group(2) or re.match(r"(pub|abbrev|unfoldable)\b", body)))
-            if fresh or (sig and not body.startswith("unfolding") and not (name and re.match(re.escape(name) + r"(?![\w'-]) (?!:)", body)) and not prev.strip().startswith("--")):
+            if fresh or (sig and not body.startswith("unfolding") and not (name and re.match(re.escape(name or "?") + r"(?![\w'-]) (?!:)", body)) and not prev.strip().startswith("--")):
                 out.append(cur)
                 cur = []
         cur.append(l)
@@ -106,27 +106,53 @@ class File:
                 self.uses.append(l)
             else:
                 rest.append(l)
-        self.items = []
-        for b in blocks(rest):
-            first = next((l for l in b if not l.lstrip().startswith("--")), None)
-            if first is None:
-                continue
-            if re.match(r"module\b", first):
-                k = next(j for j, l in enumerate(b) if re.search(r"\bwhere$", l))
-                self.items.append((b[: k + 1], [Decl(x) for x in blocks(b[k + 1 :], 2) if any(not l.lstrip().startswith("--") for l in x)]))
-            else:
-                self.items.append((None, [Decl(b)]))
+        self.items = tree(rest, 0)
 
     def decls(self):
-        return [d for _, ds in self.items for d in ds]
+        return [d for d, _ in flat(self.items, [])]
 
     def part(self, stays):
-        out = []
-        for head, ds in self.items:
-            keep = [d for d in ds if d.stays == stays]
-            if keep:
-                out.append("\n".join(head) + "\n" + "\n\n".join(d.text() for d in keep) if head else "\n\n".join(d.text() for d in keep))
-        return "\n\n".join(out)
+        return laid(self.items, stays)
+
+
+class Module:
+    def __init__(self, head, items):
+        self.head, self.items = head, items
+
+
+def tree(lines, depth):
+    """The declarations at this indentation, and those of its modules below theirs."""
+    out = []
+    for b in blocks(lines, depth):
+        first = next((l for l in b if l.strip() and not l.lstrip().startswith("--")), None)
+        if first is None:
+            continue
+        if re.match(r" *module\b", first):
+            k = next(j for j, l in enumerate(b) if not l.lstrip().startswith("--") and re.search(r"\bwhere$", l))
+            out.append(Module(b[: k + 1], tree(b[k + 1 :], depth + 2)))
+        else:
+            out.append(Decl(b))
+    return out
+
+
+def flat(items, heads):
+    for it in items:
+        if isinstance(it, Module):
+            yield from flat(it.items, heads + it.head)
+        else:
+            yield it, heads
+
+
+def laid(items, stays):
+    out = []
+    for it in items:
+        if isinstance(it, Module):
+            inside = laid(it.items, stays)
+            if inside.strip():
+                out.append("\n".join(it.head) + "\n" + inside)
+        elif it.stays == stays:
+            out.append(it.text())
+    return "\n\n".join(out)
 
 
 def pruned(uses, body, drop=()):
@@ -155,17 +181,12 @@ def main(crates):
     for crate in crates:
         top = f"crates/{crate}/specs"
         files = {os.path.relpath(p, top)[:-5].replace("/", "."): File(p) for p in sorted(glob.glob(top + "/**/*.antt", recursive=True)) if os.path.basename(p) != "Lib.antt" and not is_node(p)}
-        named = set()
+        for mod, f in files.items():
+            if mod.startswith("Laws.") and not asked(crate, mod, f, files):
+                for d in f.decls():
+                    d.stays = False
         while True:
-            names = set()
-            for f in files.values():
-                for head, ds in f.items:
-                    for d in ds:
-                        if d.stays:
-                            names |= d.names() - {d.name}
-                            for l in head or []:
-                                names |= set(re.findall(ID, l))
-            more = [d for f in files.values() for d in f.decls() if not d.stays and d.name in names]
+            more = [d for mod, f in files.items() for d in f.decls() if not d.stays and named(d.name, crate, mod, files)]
             if not more:
                 break
             for d in more:
@@ -204,17 +225,51 @@ def main(crates):
     print(f"to_proofs: {len(listing)} theorems of {len(crates)} crates")
 
 
+def asked(crate, mod, f, files):
+    """Whether a contract, or a file of definitions, names a definition of this file of laws."""
+    own = {d.name for d in f.decls() if d.stays}
+    lines = [u for other, g in files.items() if not other.startswith("Laws.") for u in g.uses]
+    for p in glob.glob(f"crates/{crate}/src/**/*.rt", recursive=True):
+        lines += [l[6:].rstrip(";") for l in read(p).split("\n") if l.startswith("ghost use")]
+    for u in lines:
+        if u.startswith(f"use Rattle.{crate}.specs.{mod}.{{"):
+            if own & {n.split(" as ")[0].strip() for n in re.sub(r".*\{|\}$", "", u).split(", ")}:
+                return True
+    return False
+
+
+def named(name, crate, mod, files):
+    """Whether a definition that stays names the theorem: in its own file, or in one that imports it."""
+    for other, f in files.items():
+        if other != mod and not any(u.startswith(f"use Rattle.{crate}.specs.{mod}.{{") and name in re.split(r"[{, }]+", u) for u in f.uses):
+            continue
+        for d, heads in flat(f.items, []):
+            if d.stays and d.name != name and (name in d.names() or name in set(re.findall(ID, " ".join(heads)))):
+                return True
+    return False
+
+
 def inner(own, f):
-    """Types with their constructors and fields are imported as they were: by the type's module."""
-    return own
+    """What the theorems may name of their file's definitions: constructors too, unless an import has the name."""
+    taken = {n.split(" as ")[-1].strip() for u in f.uses for n in re.sub(r".*\{|\}$", "", u).split(", ")}
+    out = list(own)
+    for d in f.decls():
+        if d.word == "data" and d.stays:
+            for l in d.lines[1:]:
+                m = re.match(r"\s+(?:pub )?(" + ID + r") :", l)
+                if m and m.group(1) not in taken:
+                    out.append(m.group(1))
+    return out
 
 
 def statement(d):
+    if d.name is None:
+        print("look:", d.word, d.lines[:3])
     lines = [l for l in d.lines if not l.lstrip().startswith("--")]
     name = d.name
     out = []
     for l in lines:
-        if out and (re.match(r"\s*unfolding\b", l) or re.match(r"\s*" + re.escape(name) + r"(?![\w'-])(?! :)", l)):
+        if out and (re.match(r"\s*unfolding\b", l) or re.match(r"\s*" + re.escape(name or "?") + r"(?![\w'-])(?! :)", l)):
             break
         out.append(l.strip())
     return " ".join(out)

@@ -1,11 +1,10 @@
 -- 01, Lookup: Adding, and 02, S-2 and S-8. The lines of a text in turn, up to the first fault, the entries that they add, and the spare behind them.
 -- Assumes nothing.
-use Rattle.std.specs.Prelude.{ℕ, ◌+◌, ◌-◌, ◌≡◌, refl, true, List, [], ◌∷◌, ◌++◌, eqb}
-use Rattle.std.proofs.Common.{◌∙◌}
+use Rattle.std.specs.Prelude.{ℕ, ◌+◌, ◌-◌, List, [], ◌∷◌, ◌++◌, eqb}
 use Rattle.texts.specs.Choice.{if◌then◌else◌, bit}
-use Rattle.texts.specs.Lists.{some, every, every_append}
+use Rattle.texts.specs.Lists.{some}
 use Rattle.lines.specs.Lines.{lines}
-use Rattle.slots_spec.specs.Slot.{Entry, is_ordinary}
+use Rattle.slots_spec.specs.Slot.{Entry}
 use Rattle.store_spec.specs.Store.{used, entries, same_key, count, with_count, largest}
 use Rattle.store_spec.specs.Adding.{adding}
 use Rattle.answers.specs.declared.Answer.{Answer}
@@ -44,17 +43,6 @@ entries_of (entry word tag phones) = line_entry word tag phones ∷ []
 unfoldable pub line_entries : List (List ℕ) → List Entry
 line_entries [] = []
 line_entries (l ∷ ls) = entries_of (read_line l) ++ line_entries ls
-
--- none of them is exact (02, S-8)
-pub lines_ordinary : (ls : List (List ℕ)) → every is_ordinary (line_entries ls) ≡ true
-unfolding every line_entries entries_of line_entry is_ordinary
-lines_ordinary [] = refl
-lines_ordinary (l ∷ ls) = every_append is_ordinary (entries_of (read_line l)) (line_entries ls) ∙ rw (ordinary (read_line l)) (lines_ordinary ls)
-  where
-    ordinary : (l : Line) → every is_ordinary (entries_of l) ≡ true
-    ordinary skipped = refl
-    ordinary faulty = refl
-    ordinary (entry word tag phones) = refl
 
 -- the adding rule for each entry in turn
 unfoldable pub adding_all : List Entry → List Entry → List Entry

@@ -2,4 +2,3 @@
 pub mod Line
 pub mod Filling
 pub mod Grown
-pub mod Laws

@@ -1,13 +1,10 @@
 -- 01, Lookup: Adding. What a line of a text of entries says, and the first of the refusals 3, 4, 5, 7 and 8 that applies to it.
 -- Assumes nothing.
-use Rattle.std.specs.Prelude.{ℕ, ◌+◌, ◌≡◌, true, false, not, ◌&&◌, List, [], ◌∷◌, map, leb, ltb, length, take, drop}
-use Rattle.std.proofs.Common.{drop_of_length-le, leb-true}
-use Rattle.std.proofs.Math.Seq.{take-nil}
-use Rattle.texts.specs.Choice.{if◌then◌else◌, cases}
+use Rattle.std.specs.Prelude.{ℕ, ◌+◌, false, not, ◌&&◌, List, [], ◌∷◌, map, leb, ltb, length, take, drop}
+use Rattle.texts.specs.Choice.{if◌then◌else◌}
 use Rattle.texts.specs.Lists.{every, place}
-use Rattle.texts.specs.Text.{folded, blank, is}
-use Rattle.lines.specs.Lines.{content, ink, inked, field, after_field, is_empty, fields, stripped}
-use Rattle.lines.specs.Laws.Turns.{fields_none, fields_more}
+use Rattle.texts.specs.Text.{folded, is}
+use Rattle.lines.specs.Lines.{content, is_empty, fields, stripped}
 use Rattle.slots_spec.specs.Slot.{Entry}
 use Rattle.store_spec.specs.Adding.{is_full, added}
 use Rattle.lexicon_spec.specs.Adding.{added_tag, may_add}
@@ -66,22 +63,3 @@ unfoldable pub behind_line : List ℕ → List ℕ → Line → List ℕ
 behind_line table store skipped = store
 behind_line table store faulty = store
 behind_line table store (entry word tag phones) = on_outcome (judged table store word tag phones) store (added store (line_entry word tag phones))
-
--- a field of nothing but blanks has no byte
-no_field : (s : List ℕ) → is_empty s ≡ true → field s ≡ []
-unfolding is_empty field inked
-no_field s h =
-    let l = leb-true (length s) (place ink s) h in
-    rw (drop_of_length-le s l) (take-nil (place blank []))
-
--- the fields before the colon, as the code reads them
-pub on_word : (s : List ℕ) (phones : List (List ℕ)) → is_empty s ≡ false → on_fields (fields s) phones ≡ entry (stripped (field s)) (field (after_field s)) phones
-unfolding on_fields
-on_word s phones h =
-    cases (is_empty (after_field s))
-    (λ e. rw (fields_more s h, fields_none (after_field s) e, no_field (after_field s) e))
-    (λ e. rw (fields_more s h, fields_more (after_field s) e))
-
-pub on_nothing : (s : List ℕ) (phones : List (List ℕ)) → is_empty s ≡ true → on_fields (fields s) phones ≡ faulty
-unfolding on_fields
-on_nothing s phones h = rw (fields_none s h)

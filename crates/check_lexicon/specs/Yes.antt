@@ -7,7 +7,8 @@ use Rattle.answers.specs.declared.Answer.{Answer}
 use Rattle.answers.specs.Told.{accepted}
 use Rattle.compiled_spec.specs.Lexicon.{is_lexicon, is_checked}
 use Rattle.compiled_spec.specs.Search.{chosen}
-use Rattle.compiled_spec.specs.Checked.{first, checked_first}
+use Rattle.compiled_spec.specs.Checked.{first}
+use Rattle.compiled_spec.proofs.Checked.{checked_first}
 use Rattle.check_lexicon.specs.CheckLexicon.{check_lexicon}
 
 -- a lexicon that check lexicon says yes to is checked

@@ -1,14 +1,10 @@
 -- 01, Lookup: a compiled entry at its lex.data offset is tag, word length, word, phone count, phone numbers.
 -- Assumes nothing.
-use Rattle.std.specs.Prelude.{ℕ, ◌+◌, ◌-◌, ◌*◌, ◌≤◌, ◌<◌, ◌≡◌, Bool, true, false, ◌&&◌, List, [], map, leb, ltb, length, get_or, take, drop}
-use Rattle.std.proofs.Common.{arith, ltb-true, leb-true, le-leb}
-use Rattle.std.proofs.lemmas.List.{length-map}
-use Rattle.std.proofs.lemmas.Bool.{lt-leb}
-use Rattle.texts.specs.Choice.{both_true}
-use Rattle.texts.specs.Lists.{every, every_at, get_d_map}
+use Rattle.std.specs.Prelude.{ℕ, ◌+◌, ◌*◌, Bool, ◌&&◌, List, [], map, leb, ltb, length, get_or, take, drop}
+use Rattle.texts.specs.Lists.{every}
 use Rattle.texts.specs.Text.{ascii}
 use Rattle.records.specs.Fields.{u32_at}
-use Rattle.data.specs.Sections.{is_phone_table, table_phones, table_fits}
+use Rattle.data.specs.Sections.{table_phones}
 
 -- the parts of an entry at the front of bytes
 unfoldable pub tag_of : List ℕ → ℕ
@@ -23,26 +19,6 @@ numbers_of s = take (get_or s (2 + get_or s 1 0) 0) (drop (3 + get_or s 1 0) s)
 -- no part lies outside, and its word has no byte of 128 or more; else the entry is damaged
 unfoldable pub is_whole : List ℕ → Bool
 is_whole s = leb (3 + get_or s 1 0 + get_or s (2 + get_or s 1 0) 0) (length s) && ascii (word_of s)
-
--- an entry whose parts are not all inside is damaged; else its word decides
-pub whole_short : (s : List ℕ) → length s ≤ 2 + get_or s 1 0 + get_or s (2 + get_or s 1 0) 0 → is_whole s ≡ false
-unfolding is_whole
-whole_short s h = rw (lt-leb (3 + get_or s 1 0 + get_or s (2 + get_or s 1 0) 0) (length s) (omega arith))
-
-pub whole_told : (s : List ℕ) → 2 + get_or s 1 0 + get_or s (2 + get_or s 1 0) 0 < length s → is_whole s ≡ ascii (word_of s)
-unfolding is_whole
-whole_told s h = rw (le-leb (3 + get_or s 1 0 + get_or s (2 + get_or s 1 0) 0) (length s) (omega arith))
-
--- the word of a whole entry lies inside, and is cut out by its length
-pub whole_long : (s : List ℕ) → is_whole s ≡ true → 2 + get_or s 1 0 < length s
-unfolding is_whole
-whole_long s h =
-    let l = leb-true (3 + get_or s 1 0 + get_or s (2 + get_or s 1 0) 0) (length s) (both_true (leb (3 + get_or s 1 0 + get_or s (2 + get_or s 1 0) 0) (length s)) (ascii (word_of s)) h).0 in
-    omega arith
-
-pub word_cut : (s : List ℕ) (n : ℕ) → n ≡ get_or s 1 0 → take (2 + n - 2) (drop 2 s) ≡ word_of s
-unfolding word_of
-word_cut s n e = let k : 2 + n - 2 ≡ get_or s 1 0 = omega arith in rw k
 
 -- how many entries there are
 abbrev pub count : List ℕ → ℕ
@@ -59,21 +35,3 @@ is_spoken table s = every (λ (n : ℕ). ltb n (u32_at table 0)) (numbers_of s)
 -- the phones of an entry
 unfoldable pub entry_phones : List ℕ → List ℕ → List (List ℕ)
 entry_phones table s = map (λ (n : ℕ). get_or (table_phones table) n []) (numbers_of s)
-
--- an entry has as many phones as numbers, each the one of its number, which the table has
-pub length_spoken : (table s : List ℕ) → length (entry_phones table s) ≡ length (numbers_of s)
-unfolding entry_phones
-length_spoken table s = length-map (numbers_of s) (λ (n : ℕ). get_or (table_phones table) n [])
-
-pub spoken_at : (table s : List ℕ) (i : ℕ) → i < length (numbers_of s) → get_or (entry_phones table s) i [] ≡ get_or (table_phones table) (get_or (numbers_of s) i 0) []
-unfolding entry_phones
-spoken_at table s i h = get_d_map (λ (n : ℕ). get_or (table_phones table) n []) (numbers_of s) i 0 [] h
-
-pub number_in : (table s : List ℕ) (i : ℕ) → is_spoken table s ≡ true → i < length (numbers_of s) → get_or (numbers_of s) i 0 < u32_at table 0
-unfolding is_spoken
-number_in table s i e h = ltb-true (get_or (numbers_of s) i 0) (u32_at table 0) (every_at (λ (n : ℕ). ltb n (u32_at table 0)) (numbers_of s) 0 e i h)
-
-pub spoken_fits : (table s : List ℕ) → is_phone_table table ≡ true → is_spoken table s ≡ true → (i : ℕ) → i < length (entry_phones table s) → length (get_or (entry_phones table s) i []) ≤ 15
-spoken_fits table s t e i h =
-    let l = length_spoken table s in
-    rw (spoken_at table s i (omega arith)) (table_fits table (get_or (numbers_of s) i 0) t (number_in table s i e (omega arith))).short

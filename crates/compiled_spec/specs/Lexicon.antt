@@ -1,8 +1,6 @@
 -- 01, Lookup: the form of the sections that hold compiled entries, and a checked lexicon: no entry is damaged, every number has a phone and no word is smaller than the one before it.
 -- Assumes nothing.
-use Rattle.std.specs.Prelude.{ℕ, ◌+◌, ◌-◌, ◌*◌, ◌≤◌, ◌≡◌, Bool, true, not, ◌&&◌, List, leb, length}
-use Rattle.std.proofs.Common.{leb-true}
-use Rattle.texts.specs.Choice.{both_true}
+use Rattle.std.specs.Prelude.{ℕ, ◌+◌, ◌-◌, Bool, not, ◌&&◌, List}
 use Rattle.texts.specs.Lists.{every, up_to}
 use Rattle.texts.specs.Text.{smaller}
 use Rattle.data.specs.Sections.{is_phone_table, is_lex_index}
@@ -22,13 +20,3 @@ rises index dat i = not (smaller (word_of (entry_at index dat (i + 1))) (word_of
 
 unfoldable pub is_checked : List ℕ → List ℕ → List ℕ → Bool
 is_checked phones index dat = every (is_good phones index dat) (up_to (count index)) && every (rises index dat) (up_to (count index - 1))
-
--- what the form of the sections gives: a table of phones, and room for the offsets
-pub lexicon_table : (phones index : List ℕ) → is_lexicon phones index ≡ true → is_phone_table phones ≡ true
-unfolding is_lexicon
-lexicon_table phones index h = (both_true (is_phone_table phones) (is_lex_index index) h).0
-
-pub index_room : (phones index : List ℕ) → is_lexicon phones index ≡ true → 4 + 4 * count index ≤ length index
-unfolding is_lexicon is_lex_index
-index_room phones index h =
-    leb-true (4 + 4 * count index) (length index) (both_true (leb 4 (length index)) (leb (4 + 4 * count index) (length index)) (both_true (is_phone_table phones) (is_lex_index index) h).1).1

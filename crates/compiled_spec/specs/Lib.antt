@@ -3,4 +3,3 @@ pub mod Entries
 pub mod Lexicon
 pub mod Search
 pub mod Checked
-pub mod Laws

@@ -7,11 +7,12 @@ use Rattle.std.proofs.Common.{sym, ap, ◌∙◌}
 use Rattle.texts.specs.Text.{folded}
 use Rattle.slots_spec.specs.Slot.{Entry}
 use Rattle.store_spec.specs.Store.{is_sound, entries}
-use Rattle.store_spec.specs.Sound.{is_sound_lem}
+use Rattle.store_spec.proofs.Sound.{is_sound_lem}
 use Rattle.lexicon_spec.specs.Adding.{new_entry}
 use Rattle.lexicon_spec.specs.Lookup.{find, wanted_tag}
 use Rattle.addtext_spec.specs.Filling.{adding_all}
-use Rattle.add_entry.specs.Accepted.{Entered, Taken, taken, accepted_is, add_law}
+use Rattle.add_entry.specs.Accepted.{Entered, Taken}
+use Rattle.add_entry.proofs.Accepted.{taken, accepted_is, add_law}
 use Rattle.lookup.specs.Lookup.{lookup, looked_up}
 use Rattle.pipeline_spec.specs.Pronounced.{Sections, pronounced}
 use Rattle.say_word.specs.SayWord.{say_word, sheet_after}

@@ -7,10 +7,12 @@ use Rattle.std.proofs.lemmas.Bool.{eqb-false}
 use Rattle.texts.specs.Choice.{cases, never}
 use Rattle.texts.specs.Lists.{some}
 use Rattle.store_spec.specs.Store.{entries, used, slots, count, largest, same_key}
-use Rattle.store_spec.specs.Sound.{sound, is_sound_lem}
-use Rattle.store_spec.specs.Laws.Keys.{key_turn, key_flip, none_same}
+use Rattle.store_spec.specs.Sound.{sound}
+use Rattle.store_spec.proofs.Sound.{is_sound_lem}
+use Rattle.store_spec.proofs.Laws.Keys.{key_turn, key_flip, none_same}
 use Rattle.answers.specs.declared.Answer.{Answer}
-use Rattle.add_entry.specs.Accepted.{Taken, taken_accepted}
+use Rattle.add_entry.specs.Accepted.{Taken}
+use Rattle.add_entry.proofs.Accepted.{taken_accepted}
 use Rattle.entry_order.specs.Calls.{Given, answer, after, AllAccepted}
 use Rattle.entry_order.specs.AnyOrder.{made, took, entered}
 use Rattle.entry_order.specs.Laws.Room.{has_room, free_slot, Behind, behind}

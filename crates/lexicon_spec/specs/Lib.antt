@@ -2,4 +2,3 @@
 pub mod Lookup
 pub mod Adding
 pub mod Exact
-pub mod Laws

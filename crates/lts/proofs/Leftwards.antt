@@ -18,7 +18,8 @@ use Rattle.cells.specs.Cells.{cell, cells_of}
 use Rattle.trees.specs.Walk.{walk}
 use Rattle.trees.specs.declared.Walked.{Walked}
 use Rattle.trees.specs.declared.Walked.TheVariants.{Phone, Damaged as damaged}
-use Rattle.lts_spec.specs.Letters.{padded, window, spoken, spoken_none, spoken_two, spoken_one, behind, leaf, letter, joined, up_to}
+use Rattle.lts_spec.specs.Letters.{padded, window, spoken, behind, leaf, letter, joined, up_to}
+use Rattle.lts_spec.proofs.Letters.{spoken_none, spoken_two, spoken_one}
 use Rattle.lts.specs.Puts.{Puts, Spells}
 use Rattle.lts.specs.declared.Letters.{Letters}
 use Rattle.lts.specs.declared.Letters.TheVariants.{From, Damaged}

@@ -9,9 +9,9 @@ use lib.ListN.{length, get_or, take}
 use lib.Seq.{take-length}
 use Rattle.texts.specs.Lists.{behind_last}
 use Rattle.texts.specs.Text.{is}
-use Rattle.lts_spec.specs.Laws.Last.{behind_none, behind_turn, behind_stop}
+use Rattle.lts_spec.proofs.Laws.Last.{behind_none, behind_turn, behind_stop}
 use Rattle.lts_spec.specs.Letters.{padded, stopped}
-use Rattle.lts_spec.specs.Stopped.{hash_at_lem}
+use Rattle.lts_spec.proofs.Stopped.{hash_at_lem}
 
 -- the place, by the bytes left
 abbrev pub Left : List ℕ → ℕ → Type 0

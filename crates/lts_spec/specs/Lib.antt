@@ -4,4 +4,3 @@ pub mod Letters
 pub mod Call
 pub mod FewPhones
 pub mod Stopped
-pub mod Laws

@@ -11,9 +11,10 @@ use Rattle.records.specs.Records.{record_at, put_record, put_record_same, length
 use Rattle.records.specs.Chain.{end_of}
 use Rattle.store_spec.specs.Store.{next, count, entries, is_store_length, keys_differ, is_rest}
 use Rattle.new_store.specs.NewStore.{new_head}
-use Rattle.store_spec.specs.Sound.{Sound, entries_are}
-use Rattle.store_spec.specs.Result.{long}
-use Rattle.store_spec.specs.Laws.Counts.{count_of}
+use Rattle.store_spec.specs.Sound.{Sound}
+use Rattle.store_spec.proofs.Sound.{entries_are}
+use Rattle.store_spec.proofs.Result.{long}
+use Rattle.store_spec.proofs.Laws.Counts.{count_of}
 
 module _ (b : List ℕ) (size : is_store_length (length b) ≡ true) where
   abbrev pub fresh : List ℕ

@@ -8,7 +8,7 @@ use Rattle.std.proofs.Math.Seq.{take-length}
 use Rattle.texts.specs.Choice.{if◌then◌else◌, cases}
 use Rattle.texts.specs.Lists.{some}
 use Rattle.versions.specs.Versions.{digits, is_stress}
-use Rattle.versions.specs.Laws.Stresses.{no_stress_lem}
+use Rattle.versions.proofs.Laws.Stresses.{no_stress_lem}
 
 -- the last byte, 0 where there is none
 unfoldable pub last_byte : List ℕ → ℕ

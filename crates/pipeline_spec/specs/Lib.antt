@@ -2,4 +2,3 @@
 pub mod Pronounced
 pub mod Placing
 pub mod Cutting
-pub mod Laws

@@ -13,16 +13,19 @@ use Rattle.data.specs.Sections.{is_phone_table, is_listed}
 use Rattle.slots_spec.specs.Slot.{Entry}
 use Rattle.store_spec.specs.Store.{slots, used, count, largest, entries, same_key}
 use Rattle.store_spec.specs.Adding.{without, adding, is_full}
-use Rattle.store_spec.specs.Sound.{Sound, is_sound_lem}
-use Rattle.store_spec.specs.Result.{used_is}
+use Rattle.store_spec.specs.Sound.{Sound}
+use Rattle.store_spec.proofs.Sound.{is_sound_lem}
+use Rattle.store_spec.proofs.Result.{used_is}
 use Rattle.compiled_spec.specs.Lexicon.{is_lexicon}
 use Rattle.answers.specs.declared.Source.{Source}
 use Rattle.answers.specs.Told.{accepted, source_number}
 use Rattle.lexicon_spec.specs.Adding.{may_add, may_add_cell, may_add_all, new_entry}
 use Rattle.add_entry.specs.AddEntry.{add_entry, store_after}
-use Rattle.add_entry.specs.Accepted.{add_law}
-use Rattle.lexicon_spec.specs.Lookup.{Finding, found, find, wanted_tag, told_finding, out_finding, found_fits}
-use Rattle.lookup.specs.Lookup.{lookup, looked_up, lookup_on_entries}
+use Rattle.add_entry.proofs.Accepted.{add_law}
+use Rattle.lexicon_spec.specs.Lookup.{Finding, found, find, wanted_tag, told_finding, out_finding}
+use Rattle.lexicon_spec.proofs.Lookup.{found_fits}
+use Rattle.lookup.specs.Lookup.{lookup, looked_up}
+use Rattle.lookup.proofs.Lookup.{lookup_on_entries}
 
 -- an entry to be added: a word, a tag, its phones as cells, and whether it is exact
 pub record Add : Type 0 where

@@ -23,9 +23,10 @@ use Rattle.slots_spec.specs.Slot.{Entry}
 use Rattle.store_spec.specs.Store.{slots, entries, is_store_length, is_wanted, same_key}
 use Rattle.new_store.specs.NewStore.{new_store, new_bytes}
 use Rattle.store_spec.specs.Adding.{adding, without, entry_for}
-use Rattle.store_spec.specs.Result.{few as few_slots}
+use Rattle.store_spec.proofs.Result.{few as few_slots}
 use Rattle.new_store.specs.Fresh.{fresh, length_fresh, fresh_sound, fresh_entries, fresh_count}
-use Rattle.compiled_spec.specs.Lexicon.{is_lexicon, lexicon_table}
+use Rattle.compiled_spec.specs.Lexicon.{is_lexicon}
+use Rattle.compiled_spec.proofs.Lexicon.{lexicon_table}
 use Rattle.lexicon_spec.specs.Adding.{stored_word, new_entry, added_tag}
 use Rattle.lexicon_spec.specs.Lookup.{found, chosen_entry, find, wanted_tag}
 use Rattle.lookup.specs.Lookup.{lookup, looked_up}

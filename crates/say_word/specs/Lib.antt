@@ -3,4 +3,3 @@
 pub mod SayWord
 pub mod Accepted
 pub mod SameSource
-pub mod CheckedSaying

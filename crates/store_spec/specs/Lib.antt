@@ -3,7 +3,5 @@ pub mod Store
 pub mod Adding
 pub mod Sound
 pub mod SoundStore
-pub mod Met
 pub mod Result
-pub mod Added
 pub mod Laws

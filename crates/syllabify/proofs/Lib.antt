@@ -1,1 +1,3 @@
 pub mod Written
+pub mod OneVowel
+pub mod Syllables

@@ -1,22 +1,21 @@
 -- 01, Store and sheet, and 02, S-9: `is_sound` decides whether a sheet is sound.
 -- Assumes nothing.
-use Rattle.std.specs.Prelude.{ℕ, zero, suc, ◌<◌, ◌≡◌, refl, ◌≢◌, true, not, ◌&&◌, List, [], ◌∷◌, eqb, leb, ltb, length}
-use Rattle.std.proofs.Common.{arith, sym, ap, ◌∙◌, subst, eqb-true, eq-eqb, ne_eqb, leb-true, le-leb, ltb-true, lt-ltb}
+use Rattle.std.specs.Prelude.{ℕ, zero, suc, ◌<◌, ◌≡◌, refl, ◌≢◌, true, not, ◌&&◌, List, eqb, leb, ltb, length}
+use Rattle.std.proofs.Common.{arith, sym, ap, ◌∙◌, subst, eqb-true, ne_eqb, leb-true, ltb-true}
 use Rattle.std.proofs.lemmas.Bool.{eqb-false, not-true}
 use Rattle.texts.specs.Choice.{both_true}
 use Rattle.texts.specs.Lists.{every}
-use Rattle.texts.specs.Text.{ascii}
 use Rattle.records.specs.Records.{record_at}
-use Rattle.records.specs.Chain.{All, Linked, chain, chain_more, chain_linked, distinct, all_map}
+use Rattle.records.specs.Chain.{All, Linked, chain, chain_more, distinct, all_map}
 use Rattle.versions.specs.Versions.{is_sheet_version}
 use Rattle.items_spec.specs.Item.{Item, item_of, is_clean, is_phone_item, is_head_item, fits, is_item, is_head}
-use Rattle.items_spec.specs.Laws.Fields.{phone_fields, head_fields}
+use Rattle.items_spec.proofs.Laws.Fields.{phone_fields, head_fields}
 use Rattle.utterance_spec.specs.Tree.{WordAt, items_at, Tree}
 use Rattle.utterance_spec.specs.Sheet.{at, used, items, version, is_sheet_length, after, is_parent, is_sibling, is_sung, is_chained, is_placed, walks, order, is_sound}
 use Rattle.utterance_spec.specs.Sound.{Placed, Sound}
 use Rattle.utterance_spec.specs.Laws.Parsed.{Good, parsed}
 use Rattle.utterance_spec.specs.Laws.Walked.{Leaf, walked}
-use Rattle.utterance_spec.specs.Laws.Chained.{chained, is_chained_lem, sung, is_sung_lem}
+use Rattle.utterance_spec.specs.Laws.Chained.{chained, sung}
 
 -- a phone has no children
 phone_leaf : (i : Item) → fits i ≡ true → i.kind ≡ 3 → (i.first ≡ 0) × (i.last ≡ 0)
@@ -49,10 +48,6 @@ placed b n h =
       record { parent = p.1; sibling = s.1; leaf = λ k. (leaf b n i.1 k).0 },
     )
 
-pub is_placed_lem : (b : List ℕ) (n : ℕ) → Placed b n → Good (at b) n → is_placed b n ≡ true
-unfolding is_placed
-is_placed_lem b n p g = rw (ne_eqb n 0 p.real, le-leb n (used b) p.inside, p.sound, g.parent, g.sibling)
-
 -- the walk finds a chain of such items, and every such chain is walked
 pub walk_linked : (b : List ℕ) (n p : ℕ) → walks b n p ≡ true
     → Linked (after (at b)) p (chain (after (at b)) n p) × (length (chain (after (at b)) n p) ≡ n) × All (λ (i : ℕ). is_placed b i ≡ true) (chain (after (at b)) n p)
@@ -64,13 +59,6 @@ walk_linked b (suc n) p h =
     let r = (placed b q w.0).0.real in
     let ih = walk_linked b n q w.1 in
     rw (chain_more (after (at b)) n p r) ((refl, r, ih.0), ap suc ih.1, (w.0, ih.2))
-
-linked_walk : (b : List ℕ) (p : ℕ) (xs : List ℕ) → Linked (after (at b)) p xs → All (Placed b) xs → All (Good (at b)) xs → walks b (length xs) p ≡ true
-unfolding walks
-linked_walk b p [] h a g = eq-eqb (after (at b) p) 0 h
-linked_walk b p (x ∷ xs) h a g =
-    let ih = linked_walk b x xs h.2 a.1 g.1 in
-    rw (h.0, is_placed_lem b x a.0 g.0, ih)
 
 -- what the test says of items in reading order
 record Tested (b : List ℕ) (xs : List ℕ) : Type 0 where
@@ -121,18 +109,3 @@ pub linked : (b : List ℕ) (s : Sound b) → (is_parent (at b) 0 ≡ true) × L
 linked b s =
     let z = top b s.head in
     walked (at b) s.words z.0 z.1 s.tree (all_map (Placed b) (Leaf (at b)) (items_at s.words) (λ i p. leaf b i p.sound) s.each)
-
--- their order is the one that is walked
-pub order_is : (b : List ℕ) (s : Sound b) → order b ≡ items_at s.words
-unfolding order
-order_is b s = let n = s.all in chain_linked (after (at b)) (used b) 0 (items_at s.words) (linked b s).1 (omega arith)
-
-pub is_sound_lem : (b : List ℕ) → Sound b → is_sound b ≡ true
-unfolding is_sound
-is_sound_lem b s =
-    let l = linked b s in
-    let ws = s.words in
-    let w : walks b (used b) 0 ≡ true = subst (λ (n : ℕ). walks b n 0 ≡ true) s.all (linked_walk b 0 (items_at ws) l.1 s.each l.2) in
-    let f = is_sung_lem (at b) (version b) ws s.tree.words s.sung in
-    let c = is_chained_lem (at b) ws s.tree.words s.onwards s.backwards in
-    rw (s.size, s.head, lt-ltb (used b) (items b) s.room, l.0, w, order_is b s, f, c)

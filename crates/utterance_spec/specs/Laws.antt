@@ -1,5 +1,4 @@
 -- Laws that only proofs use.
-pub mod Turns
 pub mod Ties
 pub mod Parsed
 pub mod Walked

@@ -5,8 +5,6 @@ pub mod Sound
 pub mod Append
 pub mod SoundSheet
 pub mod Decided
-pub mod Read
-pub mod Met
 pub mod Appended
 pub mod Cuts
 pub mod Laws

@@ -18,7 +18,7 @@ use Rattle.values.specs.declared.Known.TheVariants.{Pitch, Stretch, Level, Other
 use Rattle.values.specs.Values.{whole_of, setting_of, fits, known_as, is_known}
 use Rattle.values.specs.Laws.Bits.{nan_never}
 use Rattle.settings_spec.specs.Settings.{name_at, kind_at, value_at, order, is_sound, named, record_of, value_of, pitch_of, stretch_of, level_of, all_fit}
-use Rattle.settings_spec.specs.Written.{written_sound, written_here, written_other}
+use Rattle.settings_spec.proofs.Written.{written_sound, written_here, written_other}
 use Rattle.write_setting.specs.WriteSetting.{write_setting}
 use Rattle.write_setting.specs.Given.{Allowed, allowed, given_after}
 

@@ -10,7 +10,7 @@ use Rattle.texts.specs.Text.{ascii}
 use Rattle.data.specs.Sections.{is_phone_table}
 use Rattle.store_spec.specs.Store.{is_sound, count, largest}
 use Rattle.store_spec.specs.Sound.{sound}
-use Rattle.store_spec.specs.Result.{long}
+use Rattle.store_spec.proofs.Result.{long}
 use Rattle.add_entries.specs.AddEntries.{barred, add_entries, store_after, spare_after}
 use Rattle.add_entries.specs.Ends.{Read}
 use Rattle.add_entries.proofs.add_entries.Tie as tie

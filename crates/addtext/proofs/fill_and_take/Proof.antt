@@ -8,12 +8,12 @@ use mathlib.Core.List.{List}
 use lib.ListN.{length}
 use Rattle.store_spec.specs.Store.{count, with_count, largest}
 use Rattle.store_spec.specs.Sound.{sound}
-use Rattle.store_spec.specs.Result.{long}
+use Rattle.store_spec.proofs.Result.{long}
 use Rattle.answers.specs.declared.Answer.{Answer}
 use Rattle.answers.specs.Told.{accepted, told_lines, written}
 use Rattle.addtext_spec.specs.Filling.{Filled, text_filled, spare_filled}
-use Rattle.addtext_spec.specs.Grown.{stays}
-use Rattle.addtext_spec.specs.Laws.Ends.{none_refused, spare_whole, text_grown}
+use Rattle.addtext_spec.proofs.Grown.{stays}
+use Rattle.addtext_spec.proofs.Laws.Ends.{none_refused, spare_whole, text_grown}
 use Rattle.addtext.proofs.fill_and_take.Tie as tie
 
 -- a spare with every line taken, and what the store is after it

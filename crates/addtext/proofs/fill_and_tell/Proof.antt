@@ -10,8 +10,8 @@ use Rattle.lines.specs.Lines.{lines}
 use Rattle.answers.specs.declared.Answer.{Answer}
 use Rattle.answers.specs.Told.{accepted, told_lines}
 use Rattle.addtext_spec.specs.Filling.{Filled, text_filled, line_entries, replacing, spare_filled}
-use Rattle.addtext_spec.specs.Laws.Took.{Told}
-use Rattle.addtext_spec.specs.Laws.Ends.{none_refused, told_stopped, spare_whole, told_whole, text_numbers}
+use Rattle.addtext_spec.proofs.Laws.Took.{Told}
+use Rattle.addtext_spec.proofs.Laws.Ends.{none_refused, told_stopped, spare_whole, told_whole, text_numbers}
 use Rattle.addtext.proofs.fill_and_tell.Tie as tie
 
 -- where every line was taken: what is told, and the numbers as they are read from spare and store

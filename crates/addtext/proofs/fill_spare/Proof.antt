@@ -9,10 +9,10 @@ use lib.ListN.{length}
 use Rattle.records.specs.Records.{paste_whole}
 use Rattle.store_spec.specs.Store.{is_sound, with_count, largest}
 use Rattle.store_spec.specs.Sound.{sound}
-use Rattle.store_spec.specs.Result.{long}
+use Rattle.store_spec.proofs.Result.{long}
 use Rattle.answers.specs.Told.{told_lines}
 use Rattle.addtext_spec.specs.Filling.{Filled, text_filled, spare_filled}
-use Rattle.addtext_spec.specs.Laws.Ends.{spare_stopped, spare_whole}
+use Rattle.addtext_spec.proofs.Laws.Ends.{spare_stopped, spare_whole}
 use Rattle.addtext.proofs.fill_spare.Tie as tie
 
 copied : (c : tie.After-copy-in) → c.copy-in.new.0 ≡ c.before.before.before.before.before.before.args.store.now

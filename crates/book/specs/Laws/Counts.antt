@@ -1,7 +1,7 @@
 -- How the counts of store and spare stand to each other through a list of calls, whatever the entries are: they are equal only where
 -- the spare waits to be accepted.
 -- Assumes nothing.
-use Rattle.std.specs.Prelude.{ℕ, ◌+◌, ◌≤◌, ◌≡◌, refl, ◌≢◌, ◌⊎◌}
+use Rattle.std.specs.Prelude.{ℕ, ◌+◌, ◌≤◌, ◌≡◌, ◌≢◌, ◌⊎◌}
 use Rattle.std.proofs.Common.{arith, inl, inr}
 use Rattle.store_spec.specs.Store.{largest}
 
@@ -10,10 +10,6 @@ pub record Stand (c p : ℕ) (Waits : Type 0) : Type 0 where
   pub bound : c ≤ largest
   pub seen : (p ≤ c) ⊎ (p ≡ largest)
   pub waits : p ≡ c → c ≢ largest → Waits
-
--- at first both counts are 0
-pub begin : {F : Type 0} → F → Stand 0 0 F
-begin f = record { bound = omega arith; seen = inl (omega arith); waits = λ e l. f }
 
 -- an accepted call that raises the store's count and leaves the spare
 pub raised : {F G : Type 0} (c p : ℕ) → Stand c p F → c ≢ largest → Stand (c + 1) p G
@@ -31,11 +27,3 @@ raised c p s n =
     no : (p ≤ c) ⊎ (p ≡ largest) → p ≡ c + 1 → c + 1 ≢ largest → ⊥
     no (inl h) e l = omega arith
     no (inr h) e l = omega arith
-
--- an accepted first step: the spare has the count seen
-pub shown : {F G : Type 0} (c p : ℕ) → Stand c p F → G → Stand c c G
-shown c p s g = record { bound = s.bound; seen = inl (omega arith); waits = λ e l. g }
-
--- a stop at a line
-pub halted : {F G : Type 0} (c p : ℕ) → Stand c p F → Stand c largest G
-halted c p s = record { bound = s.bound; seen = inr refl; waits = λ e l. absurd (omega (arith, e, l)) }

@@ -1,6 +1,6 @@
 -- `check_lexicon::all_rise` meets its contract: the words passed don't fall, so the words left decide. Assumes nothing.
 use Rattle.compiled_spec.specs.Lexicon.{rises}
-use Rattle.compiled_spec.specs.Laws.Numbers.{below_turn, below_stop, below_end}
+use Rattle.compiled_spec.proofs.Laws.Numbers.{below_turn, below_stop, below_end}
 use Rattle.texts.specs.Lists.{every, up_to}
 use borrow.Author.Tests.{not-true, not-false}
 use lib.ListN.{drop}

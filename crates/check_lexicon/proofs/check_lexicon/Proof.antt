@@ -1,5 +1,6 @@
 -- `check_lexicon` meets its contract: sections are refused first; damage and missing phones decide before falling words. Assumes nothing.
-use Rattle.compiled_spec.specs.Lexicon.{is_checked, lexicon_table}
+use Rattle.compiled_spec.specs.Lexicon.{is_checked}
+use Rattle.compiled_spec.proofs.Lexicon.{lexicon_table}
 use Rattle.check_lexicon.specs.CheckLexicon.{check_lexicon}
 use borrow.Author.Tests.{not-true, not-false}
 use mathlib.Core.Path.{sym, ◌∙◌}

@@ -5,10 +5,11 @@ use Rattle.std.proofs.Common.{ap, ◌∙◌, append-nil}
 use Rattle.texts.specs.Choice.{cases, never, is_false}
 use Rattle.texts.specs.Lists.{first}
 use Rattle.texts.specs.Text.{folded, same, same_refl}
-use Rattle.slots_spec.specs.Slot.{Entry, fold_folded, folded_small}
+use Rattle.slots_spec.specs.Slot.{Entry}
+use Rattle.slots_spec.proofs.Slot.{fold_folded, folded_small}
 use Rattle.store_spec.specs.Store.{is_wanted, same_key}
 use Rattle.store_spec.specs.Adding.{without, adding, entry_for}
-use Rattle.store_spec.specs.Laws.Keys.{wanted_true, key_true}
+use Rattle.store_spec.proofs.Laws.Keys.{wanted_true, key_true}
 use Rattle.lexicon_spec.specs.Adding.{stored_word, new_entry}
 use Rattle.lexicon_spec.specs.Lookup.{chosen_entry, find}
 use Rattle.addtext_spec.specs.Filling.{adding_all}

@@ -9,9 +9,10 @@ use Rattle.texts.specs.Lists.{some}
 use Rattle.slots_spec.specs.Slot.{Entry}
 use Rattle.store_spec.specs.Store.{entries, used, slots, same_key, keys_differ}
 use Rattle.store_spec.specs.Adding.{without, adding, is_full}
-use Rattle.store_spec.specs.Sound.{Sound, entries_are}
-use Rattle.store_spec.specs.Result.{used_is}
-use Rattle.store_spec.specs.Laws.Keys.{key_turn, key_both, some_append, one_goes}
+use Rattle.store_spec.specs.Sound.{Sound}
+use Rattle.store_spec.proofs.Sound.{entries_are}
+use Rattle.store_spec.proofs.Result.{used_is}
+use Rattle.store_spec.proofs.Laws.Keys.{key_turn, key_both, some_append, one_goes}
 use Rattle.add_entry.specs.Accepted.{Entered}
 
 -- taking out one key leaves another where it is

@@ -1,5 +1,5 @@
 -- `lexicon::give_cells` meets its contract: too many, too long, or copied. Assumes nothing.
-use Rattle.lexicon_spec.specs.Lookup.{found_many, found_short, found_fits}
+use Rattle.lexicon_spec.proofs.Lookup.{found_many, found_short, found_fits}
 use Rattle.answers.specs.declared.Source.TheVariants.{Runtime}
 use Rattle.answers.specs.Told.{accepted}
 use Rattle.cells.specs.Cells.{phones_of, length_phones_of, phone_fits_lem, cells_front}

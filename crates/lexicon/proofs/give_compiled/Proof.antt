@@ -2,8 +2,8 @@
 use Rattle.lexicon_spec.specs.Lookup.{from_compiled}
 use Rattle.compiled_spec.specs.declared.Chosen.TheVariants.{Entry}
 use Rattle.compiled_spec.specs.declared.Chosen.{Chosen}
-use Rattle.compiled_spec.specs.Lexicon.{lexicon_table, index_room}
-use Rattle.compiled_spec.specs.Laws.Below.{Below, below}
+use Rattle.compiled_spec.proofs.Lexicon.{lexicon_table, index_room}
+use Rattle.compiled_spec.proofs.Laws.Below.{Below, below}
 use Rattle.compiled_spec.specs.Search.{chosen}
 use Rattle.compiled_spec.specs.Entries.{count}
 use mathlib.Core.Path.{◌≡◌, sym, ◌∙◌, subst}

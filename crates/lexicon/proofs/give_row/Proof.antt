@@ -1,5 +1,5 @@
 -- `lexicon::give_row` meets its contract: a row has at most eight phones; too long, or copied. Assumes nothing.
-use Rattle.lexicon_spec.specs.Lookup.{found_short, found_fits}
+use Rattle.lexicon_spec.proofs.Lookup.{found_short, found_fits}
 use Rattle.answers.specs.declared.Source.TheVariants.{Addenda}
 use Rattle.answers.specs.Told.{accepted}
 use Rattle.addenda.specs.Addenda.{addenda, no_addendum}

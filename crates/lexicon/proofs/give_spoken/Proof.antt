@@ -1,8 +1,9 @@
 -- `lexicon::give_spoken` meets its contract: damaged, too many, too long, or copied. Assumes nothing.
-use Rattle.lexicon_spec.specs.Lookup.{found_many, found_short, found_fits}
+use Rattle.lexicon_spec.proofs.Lookup.{found_many, found_short, found_fits}
 use Rattle.answers.specs.declared.Source.TheVariants.{Compiled}
 use Rattle.answers.specs.Told.{accepted}
-use Rattle.compiled_spec.specs.Entries.{is_spoken, entry_phones, length_spoken}
+use Rattle.compiled_spec.specs.Entries.{is_spoken, entry_phones}
+use Rattle.compiled_spec.proofs.Entries.{length_spoken}
 use borrow.Author.Tests.{not-true, not-false}
 use lib.ListN.{length}
 use mathlib.Core.List.{List}

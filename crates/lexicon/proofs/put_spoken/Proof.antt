@@ -1,5 +1,6 @@
 -- `lexicon::put_spoken` meets its contract: after i phones, out is what pasting i cells leaves. Assumes nothing.
-use Rattle.compiled_spec.specs.Entries.{numbers_of, entry_phones, length_spoken, spoken_at, number_in, spoken_fits}
+use Rattle.compiled_spec.specs.Entries.{numbers_of, entry_phones}
+use Rattle.compiled_spec.proofs.Entries.{length_spoken, spoken_at, number_in, spoken_fits}
 use Rattle.cells.specs.Cells.{cells_of, cell, cells_turn, cells_front}
 use Rattle.data.specs.Sections.{table_phones}
 use Rattle.data.specs.Places.{PhoneAt, Placed, phone_placed}

@@ -1,6 +1,6 @@
 -- `lexicon::runtime` meets its contract: an exact entry that matches is chosen, failing one the ordinary one. Assumes nothing.
-use Rattle.lexicon_spec.specs.Exact.{exact_preferred, ordinary_next}
-use Rattle.store_spec.specs.Laws.Found.{found_none, found_some}
+use Rattle.lexicon_spec.proofs.Exact.{exact_preferred, ordinary_next}
+use Rattle.store_spec.proofs.Laws.Found.{found_none, found_some}
 use Rattle.store_spec.specs.Store.{entries, entry_at}
 use mathlib.Core.Path.{sym, ◌∙◌}
 use borrow.Author.Rules.{rules}

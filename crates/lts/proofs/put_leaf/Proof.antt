@@ -9,7 +9,7 @@ use lib.ListN.{length, take, drop, length-take, length-drop}
 use Rattle.records.specs.Records.{part_from, length_put_record}
 use Rattle.texts.specs.Lists.{place}
 use Rattle.texts.specs.Text.{is}
-use Rattle.lts_spec.specs.Letters.{spoken_none, spoken_two, spoken_one}
+use Rattle.lts_spec.proofs.Letters.{spoken_none, spoken_two, spoken_one}
 use Rattle.lts.proofs.Put.{puts_none, puts_one, puts_two}
 use borrow.Author.Rules.{rules}
 use Rattle.lts.proofs.put_leaf.Statement.{statement}

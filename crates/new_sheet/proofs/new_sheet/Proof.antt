@@ -11,7 +11,8 @@ use lib.ListN.{length}
 use Rattle.texts.specs.Choice.{both_true}
 use Rattle.records.specs.Records.{put_record}
 use Rattle.versions.specs.Versions.{is_sheet_version}
-use Rattle.versions.specs.SoundStress.{SoundVersion, first, second, version_told}
+use Rattle.versions.specs.SoundStress.{SoundVersion, first, second}
+use Rattle.versions.proofs.SoundStress.{version_told}
 use Rattle.utterance_spec.specs.Sheet.{is_sheet_length}
 use Rattle.new_sheet.specs.NewSheet.{new_sheet, new_bytes, new_head}
 use Rattle.new_sheet.proofs.new_sheet.Tie as tie

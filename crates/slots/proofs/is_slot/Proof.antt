@@ -1,6 +1,7 @@
 -- `slots::is_slot` meets its contract: each return is decided by the first part of the slot that fails. Assumes nothing.
 use Rattle.slots_spec.specs.Slot.{is_slot}
-use Rattle.slots_spec.specs.Laws.Parts.{is_key, is_blank, used_cells, is_tidy, slot_parts}
+use Rattle.slots_spec.specs.Laws.Parts.{is_key, is_blank, used_cells, is_tidy}
+use Rattle.slots_spec.proofs.Laws.Parts.{slot_parts}
 use Rattle.records.specs.Records.{records}
 use Rattle.texts.specs.Lists.{every}
 use Rattle.texts.specs.Text.{ascii}

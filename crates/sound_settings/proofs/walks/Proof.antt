@@ -5,7 +5,7 @@ use mathlib.Core.Bool.{true, false}
 use mathlib.Core.Path.{◌≡◌, refl, sym, ap, ◌∙◌}
 use lib.Dec.{eqb}
 use borrow.Author.Tests.{not-true, not-false}
-use Rattle.settings_spec.specs.Laws.Turns.{walks_turn, walks_done, walks_stop, walks_end}
+use Rattle.settings_spec.proofs.Laws.Turns.{walks_turn, walks_done, walks_stop, walks_end}
 use Rattle.settings_spec.specs.Settings.{walks, is_record, next}
 use borrow.Author.Rules.{rules}
 use Rattle.sound_settings.proofs.walks.Statement.{statement}

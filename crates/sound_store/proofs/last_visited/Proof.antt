@@ -3,7 +3,7 @@ use Prim.Native.Nat.{◌<◌}
 use native.Mathlib.Omega.{arith}
 use mathlib.Core.Path.{◌≡◌, refl, sym, ◌∙◌}
 use Rattle.records.specs.Chain.{chain, end_of}
-use Rattle.store_spec.specs.Laws.Turns.{end_turn, end_stop, end_end}
+use Rattle.store_spec.proofs.Laws.Turns.{end_turn, end_stop, end_end}
 use Rattle.store_spec.specs.Store.{next}
 use borrow.Author.Rules.{rules}
 use Rattle.sound_store.proofs.last_visited.Statement.{statement}

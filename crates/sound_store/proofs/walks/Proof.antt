@@ -9,7 +9,7 @@ use lib.ListN.{length}
 use lib.Dec.{eqb}
 use Rattle.slots_spec.specs.Slot.{is_slot}
 use Rattle.records.specs.Records.{record_at, length_record_at}
-use Rattle.store_spec.specs.Laws.Turns.{walks_turn, walks_short, walks_past, walks_stop, walks_end}
+use Rattle.store_spec.proofs.Laws.Turns.{walks_turn, walks_short, walks_past, walks_stop, walks_end}
 use Rattle.store_spec.specs.Store.{walks}
 use borrow.Author.Rules.{rules}
 use Rattle.sound_store.proofs.walks.Statement.{statement}

@@ -8,7 +8,7 @@ use borrow.Author.Tests.{le-leb, lt-leb, not-true, not-false}
 use Rattle.texts.specs.Text.{bytes, same}
 use Rattle.cells.specs.Cells.{phones_of, length_phones_of}
 use Rattle.onsets.specs.Onsets.{onsets}
-use Rattle.syllabify.specs.Syllables.{cut_end, cut_more}
+use Rattle.syllabify.proofs.Syllables.{cut_end, cut_more}
 use borrow.Author.Rules.{rules}
 use Rattle.syllabify.proofs.cut_before.Statement.{statement}
 use Rattle.syllabify.proofs.cut_before.Tie as tie

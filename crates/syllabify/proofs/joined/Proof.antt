@@ -6,7 +6,8 @@ use mathlib.Core.List.{List, [], ◌++◌}
 use lib.ListN.{length, take, get_or}
 use lib.Seq.{take-paste, take-length}
 use Rattle.cells.specs.Cells.{phones_of, length_phones_of, phone_fits_lem}
-use Rattle.syllabify.specs.Syllables.{joined, joined_more, Joined}
+use Rattle.syllabify.specs.Syllables.{joined, Joined}
+use Rattle.syllabify.proofs.Syllables.{joined_more}
 use borrow.Author.Rules.{rules}
 use Rattle.syllabify.proofs.joined.Statement.{statement}
 use Rattle.syllabify.proofs.joined.Tie as tie

@@ -9,7 +9,8 @@ use Rattle.records.specs.Records.{part_from}
 use Rattle.cells.specs.Cells.{phones_of, length_phones_of, phones_from}
 use Rattle.phoneset.specs.Phones.{is_vowel}
 use Rattle.onsets.specs.Onsets.{onsets}
-use Rattle.syllabify.specs.Syllables.{cut, marks, marks_turn, marks_end}
+use Rattle.syllabify.specs.Syllables.{cut, marks}
+use Rattle.syllabify.proofs.Syllables.{marks_turn, marks_end}
 use Rattle.syllabify.proofs.Written.{written_more, untouched_more, written_all}
 use borrow.Author.Rules.{rules}
 use Rattle.syllabify.proofs.mark.Statement.{statement}

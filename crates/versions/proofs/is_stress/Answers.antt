@@ -1,6 +1,6 @@
 -- `versions::is_stress` meets its contract: the match's bytes are the definition's. Assumes nothing.
 use mathlib.Core.Path.{sym}
-use Rattle.versions.specs.Laws.Stresses.{zero_stress, one_stress, two_stress, no_stress_lem}
+use Rattle.versions.proofs.Laws.Stresses.{zero_stress, one_stress, two_stress, no_stress_lem}
 use Rattle.versions.proofs.is_stress.Goals as goal
 
 pub returns-in-48 : goal.returns-in-48

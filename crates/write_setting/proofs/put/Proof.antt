@@ -6,7 +6,7 @@ use mathlib.Core.Path.{◌≡◌, sym, ap, ◌∙◌}
 use mathlib.Core.Logic.{◌≢◌}
 use lib.ListN.{length}
 use borrow.Author.Tests.{not-true, not-false}
-use Rattle.settings_spec.specs.Sound.{found_inside}
+use Rattle.settings_spec.proofs.Sound.{found_inside}
 use Rattle.write_setting.specs.Laws.Ways.{not_known, no_record, unfit, wrong, right}
 use Rattle.values.specs.declared.Known.{Known}
 use Rattle.values.specs.Values.{fits, known_as, is_known, bits_of}

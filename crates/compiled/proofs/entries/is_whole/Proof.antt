@@ -1,5 +1,5 @@
 -- `compiled::is_whole` meets its contract: a part that lies outside decides first, then the word's bytes. Assumes nothing.
-use Rattle.compiled_spec.specs.Entries.{whole_short, whole_told, word_cut}
+use Rattle.compiled_spec.proofs.Entries.{whole_short, whole_told, word_cut}
 use lib.ListN.{get_or}
 use mathlib.Core.Path.{◌≡◌, sym, ◌∙◌}
 use native.Mathlib.Omega.{arith}

@@ -1,5 +1,5 @@
 -- `compiled::whole_word` meets its contract: the word of a whole entry lies inside. Assumes nothing.
-use Rattle.compiled_spec.specs.Entries.{whole_long, word_cut}
+use Rattle.compiled_spec.proofs.Entries.{whole_long, word_cut}
 use native.Mathlib.Omega.{arith}
 use borrow.Author.Rules.{rules}
 use Rattle.compiled.proofs.entries.whole_word.Statement.{statement}

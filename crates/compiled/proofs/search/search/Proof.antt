@@ -1,5 +1,6 @@
 -- `compiled::search` meets its contract: the search so far leaves the search between lo and hi. Assumes nothing.
-use Rattle.compiled_spec.specs.Search.{search as searched, search_end, search_damaged, search_up, search_down}
+use Rattle.compiled_spec.specs.Search.{search as searched}
+use Rattle.compiled_spec.proofs.Search.{search_end, search_damaged, search_up, search_down}
 use Rattle.compiled_spec.specs.Entries.{word_of, is_whole, entry_at}
 use Rattle.texts.specs.Text.{smaller}
 use borrow.Author.Tests.{not-true, not-false}

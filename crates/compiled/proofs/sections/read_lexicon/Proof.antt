@@ -1,6 +1,7 @@
 -- `compiled::read_lexicon` meets its contract: each return is decided by the first form that is broken, and the table was read before. Assumes nothing.
 use Rattle.data.specs.Places.{Placed}
-use Rattle.compiled_spec.specs.Lexicon.{is_lexicon, lexicon_table}
+use Rattle.compiled_spec.specs.Lexicon.{is_lexicon}
+use Rattle.compiled_spec.proofs.Lexicon.{lexicon_table}
 use borrow.Author.Tests.{not-true, not-false}
 use mathlib.Core.Bool.{true}
 use mathlib.Core.Path.{◌≡◌, sym, ◌∙◌}

@@ -1,6 +1,6 @@
 -- `entryline::add_entry` meets its contract: each return is decided by the first test of the definition that fails. Assumes nothing.
 use Rattle.addtext_spec.specs.Line.{line_entry, judged, on_outcome}
-use Rattle.addtext_spec.specs.Laws.Phones.{may_phones}
+use Rattle.addtext_spec.proofs.Laws.Phones.{may_phones}
 use Rattle.lexicon_spec.specs.Adding.{may_add}
 use Rattle.store_spec.specs.Adding.{is_full, kept}
 use Rattle.lines.specs.Lines.{fields}

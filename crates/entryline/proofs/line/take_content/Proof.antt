@@ -1,5 +1,6 @@
 -- `entryline::take_content` meets its contract: blank, no colon, no word, or an entry. Assumes nothing.
-use Rattle.addtext_spec.specs.Line.{on_content, outcome, behind_line, on_word, on_nothing}
+use Rattle.addtext_spec.specs.Line.{on_content, outcome, behind_line}
+use Rattle.addtext_spec.proofs.Line.{on_word, on_nothing}
 use Rattle.lines.specs.Lines.{is_empty, field, after_field, fields, stripped}
 use Rattle.texts.specs.Text.{is}
 use Rattle.texts.specs.Lists.{place}

@@ -5,7 +5,7 @@ use mathlib.Core.Path.{◌≡◌, refl, sym, ◌∙◌}
 use mathlib.Core.List.{map}
 use Rattle.records.specs.Chain.{chain}
 use Rattle.texts.specs.Lists.{some}
-use Rattle.store_spec.specs.Laws.Turns.{has_turn, has_hit, has_stop, has_end}
+use Rattle.store_spec.proofs.Laws.Turns.{has_turn, has_hit, has_stop, has_end}
 use Rattle.store_spec.specs.Store.{next, entry_at, same_key}
 use borrow.Author.Rules.{rules}
 use Rattle.keys.proofs.differ.has_key.Statement.{statement}

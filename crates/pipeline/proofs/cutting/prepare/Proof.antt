@@ -11,8 +11,8 @@ use Rattle.cells.specs.Cells.{phones_of, cells_of}
 use Rattle.onsets.specs.Onsets.{onsets}
 use Rattle.syllabify.specs.Syllables.{marks}
 use Rattle.pipeline_spec.specs.Cutting.{cuts_of}
-use Rattle.pipeline_spec.specs.Laws.BareCells.{bare_of, length_bare, bares_fit, front_phones}
-use Rattle.pipeline_spec.specs.Laws.Cuts.{cuts_front, length_own}
+use Rattle.pipeline_spec.proofs.Laws.BareCells.{bare_of, length_bare, bares_fit, front_phones}
+use Rattle.pipeline_spec.proofs.Laws.Cuts.{cuts_front, length_own}
 use Rattle.pipeline.proofs.cutting.prepare.Tie as tie
 
 front_is : (c : tie.After-head) → let a = c.before.before.before.before.before.before.before.before.before.before.args in c.head.result.now ≡ take (16 * (length a.phones.now / 16)) (cells_of (bare_of a.version a.phones.now) ++ drop (16 * (length a.phones.now / 16)) a.bare.now)

@@ -5,7 +5,7 @@ use Rattle.cells.specs.Cells.{cells_of, cell, cells_turn, cells_front}
 use Rattle.versions.specs.Versions.{digits}
 use Rattle.phoneset.specs.Stress.{bare}
 use Rattle.records.specs.Records.{put_record}
-use Rattle.pipeline_spec.specs.Laws.BareCells.{bare_of, length_bare, bare_at, bares_fit}
+use Rattle.pipeline_spec.proofs.Laws.BareCells.{bare_of, length_bare, bare_at, bares_fit}
 use native.Mathlib.Nat.{zero-add}
 use lib.Seq.{paste, paste-zero}
 use lib.ListN.{length, get_or, drop}

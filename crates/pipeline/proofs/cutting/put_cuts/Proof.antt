@@ -9,7 +9,7 @@ use lib.ListN.{length, drop, take, length-set}
 use Rattle.cells.specs.Cells.{phones_of, length_phones_of}
 use Rattle.syllabify.proofs.Written.{written_more, untouched_more, written_all}
 use Rattle.pipeline_spec.specs.Cutting.{stressed, cuts_of}
-use Rattle.pipeline_spec.specs.Laws.Cuts.{cuts_turn, cuts_end}
+use Rattle.pipeline_spec.proofs.Laws.Cuts.{cuts_turn, cuts_end}
 use Rattle.pipeline.proofs.cutting.put_cuts.Tie as tie
 
 abbrev invariant-loop : tie.invariant-loop

@@ -1,7 +1,7 @@
 -- `pipeline::cutting::stressed` meets its contract: a stress that was split off is never 0. Assumes nothing.
 use borrow.Author.Rules.{rules}
 use Rattle.pipeline.proofs.cutting.stressed.Statement.{statement}
-use Rattle.pipeline_spec.specs.Laws.Cuts.{stress_own, stress_kept}
+use Rattle.pipeline_spec.proofs.Laws.Cuts.{stress_own, stress_kept}
 use mathlib.Core.Path.{sym, ◌∙◌}
 use Rattle.pipeline.proofs.cutting.stressed.Tie as tie
 

@@ -15,8 +15,8 @@ use Rattle.lts_spec.specs.Letters.{letters, stopped}
 use Rattle.store_spec.specs.Store.{entries}
 use Rattle.lexicon_spec.specs.Lookup.{Finding, find, wanted_tag, told_finding, out_finding}
 use Rattle.pipeline_spec.specs.Pronounced.{pronounced}
-use Rattle.lts_spec.specs.FewPhones.{letters_few}
-use Rattle.pipeline_spec.specs.Laws.ChosenSource.{lookup_refused, lookup_followed}
+use Rattle.lts_spec.proofs.FewPhones.{letters_few}
+use Rattle.pipeline_spec.proofs.Laws.ChosenSource.{lookup_refused, lookup_followed}
 use Rattle.answers.specs.contracts.Looked as looked
 use Rattle.pipeline.proofs.pronouncing.pronounce.Tie as tie
 

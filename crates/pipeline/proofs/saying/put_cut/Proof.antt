@@ -14,7 +14,7 @@ use Rattle.utterance_spec.specs.Append.{size, size_in, appended}
 use Rattle.utterance_spec.specs.Decided.{sound}
 use Rattle.utterance_spec.specs.Appended.{few, last_word_in, last_phone_in}
 use Rattle.pipeline_spec.specs.Pronounced.{said}
-use Rattle.pipeline_spec.specs.Laws.Handed.{Handed, handed}
+use Rattle.pipeline_spec.proofs.Laws.Handed.{Handed, handed}
 use Rattle.pipeline.proofs.saying.put_cut.Tie as tie
 
 -- what was prepared, by the version that was read

@@ -14,9 +14,9 @@ use Rattle.store_spec.specs.Sound.{sound}
 use Rattle.answers.specs.Told.{accepted_with}
 use Rattle.pipeline_spec.specs.Pronounced.{Spoken, pronounced, phones, tables}
 use Rattle.pipeline_spec.specs.Cutting.{told_spoken}
-use Rattle.pipeline_spec.specs.Laws.Sources.{entries_fit}
-use Rattle.pipeline_spec.specs.Laws.Fits.{pronounced_fits}
-use Rattle.pipeline_spec.specs.Laws.Outcome.{Real, pronounced_real, said_refused, said_phones, phones_few}
+use Rattle.pipeline_spec.proofs.Laws.Sources.{entries_fit}
+use Rattle.pipeline_spec.proofs.Laws.Fits.{pronounced_fits}
+use Rattle.pipeline_spec.proofs.Laws.Outcome.{Real, pronounced_real, said_refused, said_phones, phones_few}
 use Rattle.pipeline.specs.Told.{told_pronounced}
 use Rattle.pipeline.proofs.saying.say.Tie as tie
 

@@ -3,7 +3,7 @@ use Prim.Native.Nat.{◌-◌, ℕ, ◌<◌}
 use native.Mathlib.Omega.{arith}
 use mathlib.Core.List.{List, map}
 use mathlib.Core.Path.{◌≡◌, refl, sym, ap, ◌∙◌}
-use Rattle.settings_spec.specs.Laws.Turns.{differ_turn, differ_hit, differ_stop, differ_end}
+use Rattle.settings_spec.proofs.Laws.Turns.{differ_turn, differ_hit, differ_stop, differ_end}
 use Rattle.settings_spec.specs.Settings.{named, name_at, next}
 use Rattle.texts.specs.Text.{distinct}
 use Rattle.records.specs.Chain.{chain}

@@ -5,7 +5,7 @@ use mathlib.Core.Bool.{true, false}
 use mathlib.Core.Path.{◌≡◌, refl, sym, ap, ◌∙◌}
 use Rattle.texts.specs.Text.{same}
 use Rattle.records.specs.Chain.{chain}
-use Rattle.settings_spec.specs.Laws.Turns.{named_turn, named_hit, named_stop, named_end}
+use Rattle.settings_spec.proofs.Laws.Turns.{named_turn, named_hit, named_stop, named_end}
 use Rattle.settings_spec.specs.Settings.{named, name_at, next}
 use borrow.Author.Rules.{rules}
 use Rattle.settings.proofs.chain.named.Statement.{statement}

@@ -13,7 +13,7 @@ use Rattle.texts.specs.Choice.{both_true}
 use Rattle.records.specs.Records.{record_at, length_record_at}
 use Rattle.items_spec.specs.Item.{is_head}
 use Rattle.utterance_spec.specs.Sheet.{at, used, items, is_sheet_length, is_parent, is_sound}
-use Rattle.utterance_spec.specs.Laws.Turns.{ordered_sound}
+use Rattle.utterance_spec.proofs.Laws.Turns.{ordered_sound}
 use Rattle.sound_sheet.proofs.sound.is_sound.Tie as tie
 
 fitting : (c : tie.Else1) → is_sheet_length (length c.before.before.before.args.sheet.now) ≡ true

@@ -1,7 +1,7 @@
 -- `store::chain::add` meets its contract: behind the slot that the search tells stands the key's entry, or nothing. Assumes nothing.
-use Rattle.store_spec.specs.Laws.Placed.{at, full_new, kept_new, full_known, kept_known}
-use Rattle.store_spec.specs.Laws.Cut.{last_cut}
-use Rattle.store_spec.specs.Result.{few, last_within}
+use Rattle.store_spec.proofs.Laws.Placed.{at, full_new, kept_new, full_known, kept_known}
+use Rattle.store_spec.proofs.Laws.Cut.{last_cut}
+use Rattle.store_spec.proofs.Result.{few, last_within}
 use Rattle.store_spec.specs.Sound.{Sound, sound}
 use Rattle.store_spec.specs.Adding.{seek}
 use Rattle.store_spec.specs.Store.{next, last, used, is_wanted}

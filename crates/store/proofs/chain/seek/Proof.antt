@@ -2,7 +2,7 @@
 use Prim.Native.Nat.{◌<◌}
 use native.Mathlib.Omega.{arith}
 use mathlib.Core.Path.{◌≡◌, refl, sym, ◌∙◌}
-use Rattle.store_spec.specs.Laws.Turns.{seek_turn, seek_hit, seek_stop, seek_end}
+use Rattle.store_spec.proofs.Laws.Turns.{seek_turn, seek_hit, seek_stop, seek_end}
 use Rattle.store_spec.specs.Adding.{seek}
 use Rattle.store_spec.specs.Store.{entry_at, is_wanted}
 use borrow.Author.Rules.{rules}

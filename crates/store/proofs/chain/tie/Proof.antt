@@ -1,7 +1,7 @@
 -- `store::tie` meets its contract: the slot's bytes are replaced by the slot of the entry, then the two fields are written. Assumes nothing.
 use native.Mathlib.Omega.{arith}
 use Rattle.store_spec.specs.Adding.{entry_for}
-use Rattle.store_spec.specs.Laws.Turns.{tied_written}
+use Rattle.store_spec.proofs.Laws.Turns.{tied_written}
 use borrow.Author.Rules.{rules}
 use Rattle.store.proofs.chain.tie.Statement.{statement}
 use Rattle.store.proofs.chain.tie.Tie as tie

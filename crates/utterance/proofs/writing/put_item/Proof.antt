@@ -8,7 +8,7 @@ use lib.ListN.{length}
 use lib.Seq.{paste}
 use Rattle.records.specs.Records.{put_record}
 use Rattle.items_spec.specs.Item.{Item, item}
-use Rattle.items_spec.specs.Laws.Written.{length_item}
+use Rattle.items_spec.proofs.Laws.Written.{length_item}
 use Rattle.utterance.proofs.writing.put_item.Tie as tie
 
 put_written : (b c d : List ℕ) (n : ℕ) (i : Item) → length i.text ≤ 47 → c ≡ item i → d ≡ paste b (64 * n) c (length c) → d ≡ put_record 64 b n (item i)

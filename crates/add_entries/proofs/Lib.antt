@@ -1,0 +1,3 @@
+-- Theorems and laws.
+pub mod BothSteps
+pub mod Ends

@@ -1,0 +1,2 @@
+-- Theorems and laws.
+pub mod Accepted

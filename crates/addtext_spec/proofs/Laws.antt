@@ -1,0 +1,5 @@
+-- Laws that only proofs use.
+pub mod Ends
+pub mod Phones
+pub mod Took
+pub mod Turns

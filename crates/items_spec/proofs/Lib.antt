@@ -1,0 +1,3 @@
+-- Theorems and laws.
+pub mod Decided
+pub mod Laws

@@ -1,0 +1,4 @@
+-- Theorems and laws.
+pub mod Exact
+pub mod Laws
+pub mod Lookup

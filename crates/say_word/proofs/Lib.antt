@@ -1,0 +1,4 @@
+-- Theorems and laws.
+pub mod Accepted
+pub mod CheckedSaying
+pub mod SameSource

@@ -1,0 +1,4 @@
+-- Theorems and laws.
+pub mod Laws
+pub mod Sound
+pub mod Written

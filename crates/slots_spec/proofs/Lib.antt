@@ -1,0 +1,4 @@
+-- Theorems and laws.
+pub mod Decided
+pub mod Laws
+pub mod Slot

@@ -1,0 +1,3 @@
+-- Theorems and laws.
+pub mod Laws
+pub mod SoundStress
