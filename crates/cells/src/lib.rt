@@ -1,4 +1,7 @@
 // Phone lists in cells of 16 bytes (01, Phones): a length byte and 15 bytes, zeros past the text.
+
+#![tactic(auto)]
+
 ghost use Rattle.std.specs.Prelude.{◌≡◌, [], ◌+◌, ◌*◌, ◌/◌, ◌<◌, ◌≤◌, min, length, get_or};
 ghost use Rattle.std.proofs.Math.Seq.{paste};
 ghost use Rattle.records.specs.Records.{put_record};

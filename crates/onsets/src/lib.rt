@@ -1,4 +1,7 @@
 // The 63 onsets (01, Phones): phones joined that may begin a syllable.
+
+#![tactic(auto)]
+
 ghost use Rattle.std.specs.Prelude.{◌≡◌, [], ◌<◌, get_or};
 ghost use Rattle.texts.specs.Text.{same};
 ghost use Rattle.onsets.specs.Onsets.{onsets, encoded, is_onset};
