@@ -1,4 +1,7 @@
 // The 50 phones and their eight features (01, Phones), what is a vowel, and the stress of a phone.
+
+#![tactic(auto)]
+
 ghost use Rattle.std.specs.Prelude.{◌≡◌, [], ◌∷◌, map, ◌<◌, length, get_or, take, drop};
 ghost use Rattle.texts.specs.Text.{same};
 ghost use Rattle.phoneset.specs.Phones.{phones, no_phone, encoded, row_of, is_vowel, is_known};

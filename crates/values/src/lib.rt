@@ -1,4 +1,7 @@
 // The value of a voice setting (02, S-12): a whole number or a float, read from its kind and its 32 bits, range-checked, and written as 32 bits again.
+
+#![tactic(auto)]
+
 ghost use Rattle.std.specs.Prelude.{◌≡◌, ◌&&◌};
 ghost use Rattle.std.specs.Float.{binary32};
 ghost use Rattle.std.specs.Float.Ieee.{of_bits, to_bits};

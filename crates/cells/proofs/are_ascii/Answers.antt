@@ -19,14 +19,14 @@ pub returns-then-not-is_ascii : goal.returns-then-not-is_ascii
 returns-then-not-is_ascii c =
     let l = c.loop-i in
     let s = c.args.list.now in
-    let e : ascii (get_or (phones_of s) l.i []) ≡ false = cc (not-true c.is_ascii.result c.if-not-is_ascii.true) in
+    let e : ascii (get_or (phones_of s) l.i []) ≡ false = cc c.if-not-is_ascii.true in
     sym (l.invariant.2 ∙ every_stop ascii (phones_of s) l.i [] (rw length_phones_of (omega arith)) e)
 
 pub loop-i-preserved : goal.loop-i-preserved
 loop-i-preserved c =
     let l = c.loop-i in
     let s = c.args.list.now in
-    let e : ascii (get_or (phones_of s) l.i []) ≡ true = cc (not-false c.is_ascii.result c.if-not-is_ascii.false) in
+    let e : ascii (get_or (phones_of s) l.i []) ≡ true = cc c.if-not-is_ascii.false in
     (l.invariant.0, omega arith, l.invariant.2 ∙ every_turn ascii (phones_of s) l.i [] (rw length_phones_of (omega arith)) e)
 
 pub returns : goal.returns

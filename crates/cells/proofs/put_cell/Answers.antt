@@ -9,9 +9,9 @@ pub copy_in-requires : goal.copy_in-requires
 copy_in-requires c = simp length-set (omega arith)
 
 pub shape_of-list : goal.shape_of-list
-shape_of-list c = simp length-set at c.copy_in.auto.0 ∙ c.clear.auto.0
+shape_of-list c = simp length-set at c.copy_in.auto.dst ∙ c.clear.auto.dst
 
 pub returns : goal.returns
 returns c =
     let a = c.args in
-    put a.list.now c.clear.new.0 c.copy_in.new.0 a.phone.now a.i (omega arith) (omega arith) c.clear.ensures c.copy_in.ensures
+    put a.list.now c.clear.new.dst c.copy_in.new.dst a.phone.now a.i (omega arith) (omega arith) c.clear.ensures c.copy_in.ensures

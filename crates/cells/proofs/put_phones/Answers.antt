@@ -27,7 +27,7 @@ loop-i-preserved c =
     let i = c.loop-i.i in
     let n = length_phones_of l in
     let t = cells_turn a.dst.now (phones_of l) a.k i (λ j h. phone_fits_lem l j (omega arith)) (omega arith) (omega arith) in
-    (c.put_cell.ensures ∙ rw (c.loop-i.invariant.0, c.phone.ensures) t, omega arith, c.loop-i.invariant.2, c.put_cell.auto.0 ∙ c.loop-i.invariant.3)
+    (c.put_cell.ensures ∙ rw (c.loop-i.invariant.0, c.phone.ensures) t, omega arith, c.loop-i.invariant.2, c.put_cell.auto.list ∙ c.loop-i.invariant.3)
 
 pub shape_of-dst : goal.shape_of-dst
 shape_of-dst c = c.loop-i.invariant.3

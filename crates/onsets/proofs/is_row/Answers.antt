@@ -12,13 +12,13 @@ use Rattle.onsets.proofs.is_row.Goals as goal
 pub slice_bounds-same-end : goal.slice_bounds-same-end
 unfolding encoded
 slice_bounds-same-end c =
-    let x = get_or onsets c.before.before.before.before.args.n [] in
-    let n = counted_length c.onset-row.result x (replicate (3 - length x) 0) c.wide.result c.onset-row.ensures c.wide.ensures.0 in
-    omega (arith, n, onset_short c.before.before.before.before.args.n c.before.before.before.before.requires)
+    let x = get_or onsets c.args.n [] in
+    let n = counted_length c.onset_row-row.result x (replicate (3 - length x) 0) c.wide-end.result c.onset_row-row.ensures c.wide-end.ensures.0 in
+    omega (arith, n, onset_short c.args.n c.requires)
 
 pub returns : goal.returns
 unfolding encoded
 returns c =
-    let x = get_or onsets c.before.before.before.before.before.before.args.n [] in
-    let e = counted_text c.onset-row.result x (replicate (3 - length x) 0) c.wide.result c.onset-row.ensures c.wide.ensures.0 in
-    c.same.ensures ∙ ap (λ (s : List ℕ). same s c.before.before.before.before.before.before.args.text.now) e
+    let x = get_or onsets c.args.n [] in
+    let e = counted_text c.onset_row-row.result x (replicate (3 - length x) 0) c.wide-end.result c.onset_row-row.ensures c.wide-end.ensures.0 in
+    c.same.ensures ∙ ap (λ (s : List ℕ). same s c.args.text.now) e

@@ -1,0 +1,6 @@
+-- `phoneset::phone_row` meets its contract: a row of the table is the quoted row, encoded. Assumes nothing.
+use Rattle.phoneset.specs.Rules.{row_at}
+use Rattle.phoneset.proofs.phone_row.Goals as goal
+
+pub returns : goal.returns
+returns c = row_at c.rows-table.result c.rows-table.ensures c.args.n c.requires
