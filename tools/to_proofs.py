@@ -39,15 +39,20 @@ class Decl:
             self.name = re.match(r"\s*(?:(?:pub|abbrev)\s+)*(?:record|data)\s+(\S+)", first).group(1)
         marks = first.strip().split(" : ")[0]
         self.marked = bool(re.match(r"(?:pub\s+)?(?:pattern|unfoldable|abbrev)\b", marks)) or self.word in ("record", "data")
-        self.blocks = None
-        self.stays = self.marked
+        local = first.startswith(" ") and not re.search(r"\bpub\b", marks)
+        self.stays = self.marked and not local
 
     def text(self):
         return "\n".join(self.lines)
 
     def names(self):
+        """What the declaration names, without fields, binders and itself."""
         t = re.sub(r"--[^\n]*|\"[^\"\n]*\"", "", self.text())
-        return set(re.findall(ID, t))
+        found = set(re.findall(r"(?<![.\w'-])" + ID, t))
+        bound = {n for ns in re.findall(r"[({]([^(){}:]+) : ", t) for n in ns.split()}
+        if self.word in ("record", "data"):
+            bound |= set(re.findall(r"(?m)^\s+(?:pub )?(" + ID + r") :", t))
+        return found - bound - {self.name}
 
 
 def blocks(lines, depth=0):
@@ -227,8 +232,12 @@ def main(crates):
 
 def asked(crate, mod, f, files):
     """Whether a contract, or a file of definitions, names a definition of this file of laws."""
-    own = {d.name for d in f.decls() if d.stays}
-    lines = [u for other, g in files.items() if not other.startswith("Laws.") for u in g.uses]
+    own = {d.name for d in f.decls() if d.marked}
+    lines = []
+    for other, g in files.items():
+        if not other.startswith("Laws."):
+            said = {n for d, heads in flat(g.items, []) if d.stays for n in d.names() | set(re.findall(ID, " ".join(heads)))}
+            lines += [re.sub(r"\{.*", "{" + ", ".join(n for n in re.sub(r".*\{|\}$", "", u).split(", ") if n.split(" as ")[-1].strip() in said) + "}", u) for u in g.uses if "{" in u]
     for p in glob.glob(f"crates/{crate}/src/**/*.rt", recursive=True):
         lines += [l[6:].rstrip(";") for l in read(p).split("\n") if l.startswith("ghost use")]
     for u in lines:

@@ -4,7 +4,7 @@ use Rattle.std.specs.Prelude.{ℕ, ◌≡◌, ◌&&◌, List, eqb, length}
 use Rattle.std.proofs.Common.{arith, eqb-true}
 use Rattle.texts.specs.Choice.{cases, both_true}
 use Rattle.store_spec.specs.Store.{is_sound, count, largest}
-use Rattle.store_spec.specs.Sound.{sound}
+use Rattle.store_spec.proofs.Sound.{sound}
 use Rattle.accept_entries.specs.AcceptEntries.{accept_entries}
 use Rattle.accept_entries.specs.Accepted.{Fit}
 

@@ -2,7 +2,8 @@
 -- Assumes nothing.
 use Rattle.std.specs.Prelude.{ℕ, ◌≡◌, false, List, eqb}
 use Rattle.store_spec.specs.Store.{count, largest}
-use Rattle.store_spec.specs.Sound.{Sound, sound}
+use Rattle.store_spec.specs.Sound.{Sound}
+use Rattle.store_spec.proofs.Sound.{sound}
 
 pub record Fit (store spare : List ℕ) : Type 0 where
   pub sound : Sound spare

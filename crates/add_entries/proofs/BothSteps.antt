@@ -17,9 +17,12 @@ use Rattle.accept_entries.specs.AcceptEntries.{accept_entries, store_after as st
 use Rattle.add_entries.specs.AddEntries.{barred, add_entries}
 use Rattle.add_entries.specs.Ends.{Taken, Ends, whole, stopped, unread}
 use Rattle.add_entries.proofs.Ends.{ends}
-use Rattle.add_entries.specs.BothSteps.{Together, full}
+use Rattle.add_entries.specs.BothSteps.{Together}
 
 module _ (table store spare text : List ℕ) (t : Taken table store spare text) where
+  abbrev full : List ℕ
+  full = (text_filled table store text).store
+
   unbarred : barred_first table store spare text ≡ 0
   unfolding barred_first
   unbarred = let r = t.tests in rw (r.tabled, r.stored, r.alike, r.low)

@@ -10,7 +10,7 @@ use Rattle.data.specs.Sections.{is_phone_table}
 use Rattle.lines.specs.Lines.{lines}
 use Rattle.lines.specs.Laws.Ascii.{ascii_lines}
 use Rattle.store_spec.specs.Store.{is_sound, count, largest}
-use Rattle.store_spec.specs.Sound.{sound}
+use Rattle.store_spec.proofs.Sound.{sound}
 use Rattle.addtext_spec.specs.Filling.{text_filled, spare_filled}
 use Rattle.addtext_spec.proofs.Grown.{stop_law}
 use Rattle.addtext_spec.proofs.Laws.Ends.{text_grown}

@@ -9,7 +9,7 @@ use Rattle.cells.specs.Cells.{ascii_phones}
 use Rattle.data.specs.Sections.{is_phone_table}
 use Rattle.store_spec.specs.Store.{entries, is_sound, count, largest}
 use Rattle.store_spec.specs.Adding.{added, is_full}
-use Rattle.store_spec.specs.Sound.{sound}
+use Rattle.store_spec.proofs.Sound.{sound}
 use Rattle.store_spec.proofs.Added.{room}
 use Rattle.store_spec.proofs.Laws.Counts.{counted, counted_length, counted_entries, counted_count}
 use Rattle.answers.specs.declared.Refusal.TheVariants.{Section, Unsound, Count, Text, UnknownPhone, Phones, Full}

@@ -39,9 +39,9 @@ abbrev pub past : List ℕ → List ℕ → ℕ → ℕ → List (List ℕ) → 
 past table store n k ls l = onward n k (behind_line table store l) (λ (m : ℕ). filled table (behind_line table store l) (n + 1) m ls) (outcome table store l)
 
 -- behind any lines, also where one stopped them: a sound store, as long as it was
-record Whole (b c : List ℕ) : Type 0 where
-  sound : Sound c
-  length : length c ≡ length b
+pub record Whole (b c : List ℕ) : Type 0 where
+  pub sound : Sound c
+  pub length : length c ≡ length b
 
 -- what a stop leaves in the spare: as many bytes as the store, and the largest count
 pub record Stopped (store spare : List ℕ) : Type 0 where

@@ -7,15 +7,17 @@ use Rattle.std.proofs.lemmas.List.{map-append}
 use Rattle.records.specs.Chain.{all_map, only}
 use Rattle.records.specs.Counted.{Within}
 use Rattle.slots_spec.specs.Slot.{Entry}
-use Rattle.store_spec.specs.Store.{next, entry_at}
+use Rattle.store_spec.specs.Store.{next, used as used_slots, entry_at, entries}
+use Rattle.store_spec.specs.Sound.{Slot, Sound as SoundStore}
+use Rattle.store_spec.proofs.Sound.{entries_are}
 use Rattle.items_spec.specs.Item.{Item}
 use Rattle.utterance_spec.specs.Tree.{Word, Page, SyllableAt, WordAt, phones_in as phones_under, phones_at, items_at, text_at, syllable_at, word_at}
 use Rattle.utterance_spec.specs.Sheet.{at, used, page_at, page}
 use Rattle.utterance_spec.specs.Sound.{Placed, Sound}
 use Rattle.utterance_spec.proofs.Read.{tree_read, reading_is}
-use Rattle.utterance_spec.proofs.Met.{phone_met, phones_once}
+use Rattle.utterance_spec.proofs.MetLaws.{phone_met, phones_once}
 use Rattle.book.specs.WellCut.{groups_of, together, phones_in, WellCut}
-use Rattle.book.specs.Claim.{Each, word_phones, Holds, Tells, holds}
+use Rattle.book.specs.Claim.{Each, word_phones, Holds, Tells}
 
 -- the texts of the phone items are the words' phones
 module _ (S : ℕ → Item) where
@@ -29,6 +31,16 @@ module _ (S : ℕ → Item) where
       map-append (text_at S) (phones_under w.syllables) (phones_at ws)
       ∙ ap (λ (l : List (List ℕ)). l ++ map (text_at S) (phones_at ws)) (syllables_told w.syllables)
       ∙ ap (λ (l : List (List ℕ)). phones_in (word_at S w) ++ l) (words_told ws)
+
+pub holds : (store : List ℕ) (es : List Entry) → SoundStore store → entries store ≡ es → Holds store es
+holds store es s e =
+    record {
+      sound = s;
+      slots = s.chained;
+      linked = s.linked;
+      inside = all_map (Slot store) (Within (used_slots store)) s.chained (λ n p. let r = p.real in (omega arith, p.inside)) s.each;
+      holds = sym (entries_are store s) ∙ e;
+    }
 
 pub tells : (sheet : List ℕ) (p : Page) → Sound sheet → page sheet ≡ p → Each WellCut p.words → Tells sheet p
 unfolding page

@@ -38,13 +38,13 @@ use Rattle.say_word.specs.SayWord.{say_word, sheet_after}
 use Rattle.say_word.proofs.Accepted.{say_law}
 use Rattle.book.specs.Calls.{Call, make_sheet, adds_entry, adds_text, previews_text, accepts_text, says_word, Made, State, answer, step, is_refused, leaves, fresh}
 use Rattle.book.specs.Book.{Book, empty, page_of, accepts, keeps, hears}
-use Rattle.book.specs.Laws.Counts.{Stand, raised}
-use Rattle.book.proofs.Laws.Counts.{begin, shown, halted}
+use Rattle.book.specs.Laws.Counts.{Stand}
+use Rattle.book.proofs.Laws.Counts.{begin, raised, shown, halted}
 use Rattle.book.specs.WellCut.{WellCut}
 use Rattle.book.proofs.WellCut.{said_cut}
-use Rattle.book.specs.Claim.{Each, Holds, Tells, holds}
-use Rattle.book.proofs.Claim.{tells}
-use Rattle.book.specs.Every.{Agrees, After, more}
+use Rattle.book.specs.Claim.{Each, Holds, Tells}
+use Rattle.book.proofs.Claim.{holds, tells}
+use Rattle.book.specs.Every.{Agrees}
 
 each_last : (P : Word → Type 0) (ws : List Word) (w : Word) → Each P ws → P w → Each P (ws ++ (w ∷ []))
 each_last P [] w h k = (k, tt)
@@ -59,6 +59,10 @@ below : (n : ℕ) → n ≤ largest → eqb n largest ≡ false → (n ≢ large
 below n b e = let h = eqb-false n largest e in (h, omega (arith, b, h))
 
 module _ (c : Sections) (s : State) (k : Book) (a : Agrees s k) where
+  -- what a call must leave
+  abbrev After : Call → Option (List ℕ) → Type 0
+  After call other = Agrees (step c call other s) (if is_refused c call other s then k else accepts c call k)
+
   makes : (version : ℕ) (other : Option (List ℕ)) → After (make_sheet version) other
   unfolding answer step accepts
   makes version other =
@@ -96,6 +100,9 @@ module _ (c : Sections) (s : State) (k : Book) (a : Agrees s k) where
 
   -- a store that was raised by bytes that a text filled, beside the list's own spare or the filled one
   module _ (text full : List ℕ) (g : Grown s.store full (line_entries (lines text))) (r : eqb (count s.store) largest ≡ false) where
+    abbrev more : ℕ
+    more = count s.store + 1
+
     text_entries : entries (with_count full more) ≡ adding_all (line_entries (lines text)) k.entries
     text_entries = counted_entries full more g.sound ∙ g.entries ∙ ap (λ (es : List Entry). adding_all (line_entries (lines text)) es) a.entries
 

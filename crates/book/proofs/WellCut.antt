@@ -15,7 +15,7 @@ use Rattle.syllabify.specs.Syllables.{is_pau, cut, marks, syllables, on_first, v
 use Rattle.syllabify.proofs.OneVowel.{one_vowel_lem, one_syllable_lem}
 use Rattle.utterance_spec.specs.Tree.{Syllable}
 use Rattle.pipeline_spec.specs.Pronounced.{sung, said}
-use Rattle.book.specs.WellCut.{groups_of, together, phones_in, WellCut, xs}
+use Rattle.book.specs.WellCut.{groups_of, together, phones_in, WellCut}
 
 -- cutting commutes with what is done to each phone
 first_map : (f : List ℕ → List ℕ) (x : List ℕ) (gs : List (List (List ℕ))) → on_first (f x) (map (map f) gs) ≡ map (map f) (on_first x gs)
@@ -62,6 +62,9 @@ alone [] v np h = absurd (omega (arith, h))
 alone (z ∷ zs) v np h = ap (λ (l : List (List (List ℕ))). length l) (one_syllable_lem onsets z zs false v np)
 
 module _ (v : ℕ) (word : List ℕ) (source : ℕ) (ps : List (List ℕ)) where
+  abbrev xs : List (List ℕ)
+  xs = map (bare (digits v)) ps
+
   groups_said : groups_of (said v word source ps).syllables ≡ syllables (marks onsets false xs) xs
   unfolding said
   groups_said = groups_sung v (syllables (marks onsets false xs) ps) ∙ sym (cut_map (bare (digits v)) (marks onsets false xs) ps)

@@ -16,7 +16,7 @@ use Rattle.syllabify.specs.Syllables.{vowels}
 use Rattle.utterance_spec.specs.Tree.{Word, Page, WordAt, words_at, phones_at, items_at, sibling, follow, prev, places}
 use Rattle.utterance_spec.specs.Sheet.{at, used, reading, page, is_sheet_length, after, beyond, is_parent, is_sibling, is_sung, is_chained, is_placed, walks, order, is_sound}
 use Rattle.utterance_spec.specs.Sound.{Placed}
-use Rattle.utterance_spec.specs.Decided.{sound}
+use Rattle.utterance_spec.proofs.Decided.{sound}
 use Rattle.book.specs.WellCut.{WellCut}
 use Rattle.book.specs.Claim.{Tells}
 use Rattle.book.proofs.Claim.{tells, one_telling}

@@ -15,7 +15,7 @@ use Rattle.compiled_spec.specs.Entries.{tag_of, is_whole, is_spoken, count, entr
 use Rattle.compiled_spec.specs.Search.{search as searched, tagged, from_place, chosen}
 use Rattle.compiled_spec.proofs.Search.{search_end, search_up, search_down, tagged_end, tagged_other, tagged_stop, tagged_turn}
 use Rattle.compiled_spec.specs.Lexicon.{is_good, rises, is_checked}
-use Rattle.compiled_spec.specs.Checked.{word_at, is_equal, is_exact, first, Split}
+use Rattle.compiled_spec.specs.Checked.{word_at, is_equal, is_exact, first}
 
 -- what check lexicon's yes says of the words
 module _ (phones index dat : List ℕ) (checked : is_checked phones index dat ≡ true) where
@@ -43,6 +43,11 @@ module _ (phones index dat : List ℕ) (checked : is_checked phones index dat �
   rise i j h g = let e : i + (j - i) ≡ j = omega arith in rw e at (climb i (j - i) (omega arith))
 
   module _ (word : List ℕ) where
+    -- the words below entry p are smaller, the others are not
+    record Split (p : ℕ) : Type 0 where
+      low : (i : ℕ) → i < p → smaller (word_at index dat i) word ≡ true
+      high : (i : ℕ) → p ≤ i → i < count index → smaller (word_at index dat i) word ≡ false
+
     -- the search ends at the first entry that is not smaller
     split : (k lo hi : ℕ) → hi - lo ≤ k → lo ≤ hi → hi ≤ count index
         → ((i : ℕ) → i < lo → smaller (word_at index dat i) word ≡ true)

@@ -1,13 +1,12 @@
 -- 01, Lookup: in a lexicon that check lexicon says yes to, a compiled answer is the first equal word with the exact tag, else the first equal word.
 -- Assumes nothing.
-use Rattle.std.specs.Prelude.{ℕ, ◌≤◌, ◌<◌, ◌≡◌, Bool, true, false, ◌&&◌, List, eqb, ltb}
+use Rattle.std.specs.Prelude.{ℕ, Bool, ◌&&◌, List, eqb, ltb}
 use Rattle.texts.specs.Choice.{if◌then◌else◌}
 use Rattle.texts.specs.Lists.{place, up_to}
-use Rattle.texts.specs.Text.{same, smaller}
+use Rattle.texts.specs.Text.{same}
 use Rattle.compiled_spec.specs.declared.Chosen.{Chosen}
 use Rattle.compiled_spec.specs.declared.Chosen.TheVariants.{Missing, Entry}
 use Rattle.compiled_spec.specs.Entries.{tag_of, word_of, count, entry_at}
-use Rattle.compiled_spec.specs.Lexicon.{is_checked}
 
 -- the word of entry i
 abbrev pub word_at : List ℕ → List ℕ → ℕ → List ℕ
@@ -28,11 +27,3 @@ module _ (index dat word : List ℕ) where
       let exact = place (is_exact tag) (up_to (count index)) in
       let equal = place is_equal (up_to (count index)) in
       if ltb exact (count index) then Entry exact else if ltb equal (count index) then Entry equal else Missing
-
--- what check lexicon's yes says of the words
-module _ (phones index dat : List ℕ) (checked : is_checked phones index dat ≡ true) where
-  module _ (word : List ℕ) where
-    -- the words below entry p are smaller, the others are not
-    record Split (p : ℕ) : Type 0 where
-      low : (i : ℕ) → i < p → smaller (word_at index dat i) word ≡ true
-      high : (i : ℕ) → p ≤ i → i < count index → smaller (word_at index dat i) word ≡ false

@@ -7,7 +7,7 @@ use Rattle.std.proofs.lemmas.Bool.{eqb-false}
 use Rattle.texts.specs.Choice.{cases, never}
 use Rattle.texts.specs.Lists.{some}
 use Rattle.store_spec.specs.Store.{entries, used, slots, count, largest, same_key}
-use Rattle.store_spec.specs.Sound.{sound}
+use Rattle.store_spec.proofs.Sound.{sound}
 use Rattle.store_spec.proofs.Sound.{is_sound_lem}
 use Rattle.store_spec.proofs.Laws.Keys.{key_turn, key_flip, none_same}
 use Rattle.answers.specs.declared.Answer.{Answer}

@@ -24,7 +24,7 @@ use Rattle.answers.specs.declared.Source.TheVariants.{Compiled}
 use Rattle.answers.specs.Told.{accepted}
 use Rattle.lexicon_spec.specs.Lookup.{chosen_entry, Finding, nothing, damaged, found, wanted_tag, on_entry, on_row, from_compiled, find, told_finding, out_finding}
 use Rattle.lookup.specs.Lookup.{lookup, looked_up}
-use Rattle.lookup.proofs.Lookup.{lookup_on_entries}
+use Rattle.lookup.proofs.LookupLaws.{lookup_on_entries}
 use Rattle.lookup.specs.CheckedLookup.{Equal, Exact, First, Never, Answers, Undamaged, exact, equal, missing}
 
 -- there is only one such answer

@@ -1,3 +1,3 @@
 -- Theorems and laws.
 pub mod CheckedLookup
-pub mod Lookup
+pub mod LookupLaws

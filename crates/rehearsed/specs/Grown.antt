@@ -25,7 +25,7 @@ use Rattle.add_entry.proofs.Accepted.{add_law}
 use Rattle.lexicon_spec.specs.Lookup.{Finding, found, find, wanted_tag, told_finding, out_finding}
 use Rattle.lexicon_spec.proofs.Lookup.{found_fits}
 use Rattle.lookup.specs.Lookup.{lookup, looked_up}
-use Rattle.lookup.proofs.Lookup.{lookup_on_entries}
+use Rattle.lookup.proofs.LookupLaws.{lookup_on_entries}
 
 -- an entry to be added: a word, a tag, its phones as cells, and whether it is exact
 pub record Add : Type 0 where

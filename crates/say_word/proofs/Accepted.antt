@@ -9,12 +9,12 @@ use Rattle.texts.specs.Choice.{both_true, cases}
 use Rattle.texts.specs.Text.{is_word}
 use Rattle.lts_spec.specs.Letters.{is_trees}
 use Rattle.store_spec.specs.Store.{entries, is_sound}
-use Rattle.store_spec.specs.Sound.{sound as sound-store}
+use Rattle.store_spec.proofs.Sound.{sound as sound-store}
 use Rattle.compiled_spec.specs.Lexicon.{is_lexicon}
 use Rattle.utterance_spec.specs.Sheet.{used, items, version, page, is_sound as is_sheet}
 use Rattle.utterance_spec.specs.Sound.{Sound}
 use Rattle.utterance_spec.specs.Append.{size, appended}
-use Rattle.utterance_spec.specs.Decided.{sound}
+use Rattle.utterance_spec.proofs.Decided.{sound}
 use Rattle.utterance_spec.proofs.Appended.{append_law, append_reads}
 use Rattle.answers.specs.declared.Answer.{Answer}
 use Rattle.pipeline_spec.specs.Pronounced.{Sections, Spoken, barred, phones as comes, pronounced, said}

@@ -12,7 +12,7 @@ use Rattle.lts_spec.specs.Letters.{is_trees, letters, stopped}
 use Rattle.lts_spec.specs.Call.{predict}
 use Rattle.lexicon_spec.specs.Lookup.{Finding, nothing, damaged, found, wanted_tag, find}
 use Rattle.lookup.specs.Lookup.{lookup}
-use Rattle.lookup.proofs.Lookup.{lookup_on_entries}
+use Rattle.lookup.proofs.LookupLaws.{lookup_on_entries}
 use Rattle.lookup.specs.CheckedLookup.{Undamaged}
 use Rattle.lookup.proofs.CheckedLookup.{find_undamaged}
 use Rattle.utterance_spec.specs.Tree.{Word}

@@ -8,7 +8,7 @@ use Rattle.store_spec.specs.Store.{entries}
 use Rattle.lts_spec.specs.Letters.{letters, stopped}
 use Rattle.lexicon_spec.specs.Lookup.{Finding, nothing, damaged, found, find, wanted_tag, told_finding}
 use Rattle.lookup.specs.Lookup.{lookup}
-use Rattle.lookup.proofs.Lookup.{lookup_on_entries}
+use Rattle.lookup.proofs.LookupLaws.{lookup_on_entries}
 use Rattle.utterance_spec.specs.Sheet.{version}
 use Rattle.answers.specs.declared.Answer.{Answer}
 use Rattle.answers.specs.declared.Source.{Source}

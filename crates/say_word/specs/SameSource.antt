@@ -18,10 +18,10 @@ pub record Sourced (c : Sections) (store sheet word tag : List ℕ) (kind : ℕ)
   pub source : last.source ≡ source_by kind
 
 -- phones are no refusal, and have a source
-abbrev HasPhones : Spoken → Type 0
+abbrev pub HasPhones : Spoken → Type 0
 HasPhones (barred n) = ⊥
 HasPhones (phones source place ps) = Unit {0}
 
-abbrev source_in : Spoken → ℕ
+abbrev pub source_in : Spoken → ℕ
 source_in (barred n) = 0
 source_in (phones source place ps) = source

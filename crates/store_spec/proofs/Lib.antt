@@ -1,7 +1,7 @@
 -- Theorems and laws.
 pub mod Added
 pub mod Laws
-pub mod Met
+pub mod MetLaws
 pub mod Result
 pub mod Sound
 pub mod SoundStore

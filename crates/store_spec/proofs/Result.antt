@@ -11,7 +11,7 @@ use Rattle.store_spec.specs.Store.{next, last, used, slots, entry_at, entries, i
 use Rattle.store_spec.specs.Adding.{adding}
 use Rattle.store_spec.specs.Sound.{Slot, Sound}
 use Rattle.store_spec.proofs.Sound.{entries_are}
-use Rattle.store_spec.specs.Laws.Bytes.{Kept}
+use Rattle.store_spec.proofs.Laws.Bytes.{Kept}
 use Rattle.store_spec.proofs.Laws.Keys.{keys_adding}
 use Rattle.store_spec.specs.Result.{Added}
 

@@ -11,11 +11,11 @@ abbrev pub one_vowel : List (List ℕ) → Bool
 one_vowel g = eqb (vowels g) 1
 
 -- a first syllable that has n vowels, and behind it one each
-abbrev First : ℕ → List (List (List ℕ)) → Type 0
+abbrev pub First : ℕ → List (List (List ℕ)) → Type 0
 First n [] = ⊥
 First n (g ∷ gs) = (vowels g ≡ n) × (every one_vowel gs ≡ true)
 
 -- the vowels that a syllable still needs
-abbrev needed : Bool → ℕ
+abbrev pub needed : Bool → ℕ
 needed true = 0
 needed false = 1

@@ -8,7 +8,7 @@ use lib.ListN.{length, get_or}
 use borrow.Author.Tests.{lt-ltb, le-ltb, le-leb, lt-leb, eq-eqb, ne_eqb}
 use Rattle.records.specs.Fields.{u16_at}
 use Rattle.trees.specs.Walk.{node_at, walk}
-use Rattle.trees.proofs.Walk.{walk_turn, walk_end}
+use Rattle.trees.proofs.WalkLaws.{walk_turn, walk_end}
 use Rattle.trees.specs.declared.Node.TheVariants.{Leaf, Next}
 use Rattle.trees.specs.declared.Walked.TheVariants.{Phone, Damaged}
 

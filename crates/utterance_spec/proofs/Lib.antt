@@ -2,6 +2,6 @@
 pub mod Appended
 pub mod Decided
 pub mod Laws
-pub mod Met
+pub mod MetLaws
 pub mod Read
 pub mod SoundSheet

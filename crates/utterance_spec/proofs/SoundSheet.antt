@@ -14,7 +14,7 @@ use Rattle.items_spec.proofs.Decided.{item_sound, head_sound}
 use Rattle.utterance_spec.specs.Tree.{SyllableAt, WordAt, syllables_at, items_at, SungIn, Sung}
 use Rattle.utterance_spec.specs.Sheet.{at, used, version, is_sheet_length}
 use Rattle.utterance_spec.specs.Sound.{Placed, Sound}
-use Rattle.utterance_spec.specs.Decided.{top}
+use Rattle.utterance_spec.proofs.Decided.{top}
 use Rattle.utterance_spec.specs.SoundSheet.{SheetLength, Stressed, AllStressed}
 
 pub length_sound : (n : ℕ) → is_sheet_length n ≡ true → SheetLength n

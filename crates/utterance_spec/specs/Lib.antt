@@ -7,4 +7,3 @@ pub mod SoundSheet
 pub mod Decided
 pub mod Appended
 pub mod Cuts
-pub mod Laws

@@ -13,7 +13,7 @@ use Rattle.texts.specs.Choice.{if◌then◌else◌}
 use Rattle.answers.specs.declared.Answer.{Answer}
 use Rattle.answers.specs.Told.{refused, accepted, written}
 use Rattle.store_spec.specs.Store.{is_sound, count, with_count, largest}
-use Rattle.store_spec.specs.Sound.{sound}
+use Rattle.store_spec.proofs.Sound.{sound}
 use Rattle.store_spec.proofs.Result.{long}
 use Rattle.accept_entries.specs.AcceptEntries.{accept_entries, store_after}
 use Rattle.accept_entries.proofs.accept_entries.Tie as tie

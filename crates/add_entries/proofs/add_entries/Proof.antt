@@ -9,7 +9,7 @@ use borrow.Author.Tests.{not-true, not-false, eq-eqb, ne_eqb}
 use Rattle.texts.specs.Text.{ascii}
 use Rattle.data.specs.Sections.{is_phone_table}
 use Rattle.store_spec.specs.Store.{is_sound, count, largest}
-use Rattle.store_spec.specs.Sound.{sound}
+use Rattle.store_spec.proofs.Sound.{sound}
 use Rattle.store_spec.proofs.Result.{long}
 use Rattle.add_entries.specs.AddEntries.{barred, add_entries, store_after, spare_after}
 use Rattle.add_entries.specs.Ends.{Read}

@@ -4,7 +4,7 @@ use Rattle.add_entry.specs.AddEntry.{add_entry, store_after}
 use Rattle.add_entry.specs.Accepted.{Passed}
 use Rattle.store_spec.specs.Adding.{entry_for, is_full, kept}
 use Rattle.store_spec.specs.Store.{is_sound, count, with_count, largest}
-use Rattle.store_spec.specs.Sound.{sound}
+use Rattle.store_spec.proofs.Sound.{sound}
 use Rattle.store_spec.proofs.Result.{long}
 use Rattle.data.specs.Sections.{is_phone_table}
 use Rattle.cells.specs.Cells.{ascii_phones}

@@ -12,7 +12,7 @@ use Rattle.texts.specs.Text.{ascii, ascii_drop}
 use Rattle.lines.specs.Lines.{first_line, after_line, lines}
 use Rattle.lines.specs.Laws.Ascii.{ascii_line}
 use Rattle.store_spec.specs.Store.{is_sound}
-use Rattle.store_spec.specs.Sound.{sound}
+use Rattle.store_spec.proofs.Sound.{sound}
 use Rattle.store_spec.proofs.Sound.{is_sound_lem}
 use Rattle.addtext_spec.specs.Line.{read_line, behind_line}
 use Rattle.addtext_spec.specs.Filling.{Filled, onward, filled}

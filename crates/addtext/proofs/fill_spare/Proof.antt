@@ -8,7 +8,7 @@ use mathlib.Core.List.{List}
 use lib.ListN.{length}
 use Rattle.records.specs.Records.{paste_whole}
 use Rattle.store_spec.specs.Store.{is_sound, with_count, largest}
-use Rattle.store_spec.specs.Sound.{sound}
+use Rattle.store_spec.proofs.Sound.{sound}
 use Rattle.store_spec.proofs.Result.{long}
 use Rattle.answers.specs.Told.{told_lines}
 use Rattle.addtext_spec.specs.Filling.{Filled, text_filled, spare_filled}

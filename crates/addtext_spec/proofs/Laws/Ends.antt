@@ -7,7 +7,7 @@ use Rattle.data.specs.Sections.{is_phone_table}
 use Rattle.lines.specs.Lines.{lines}
 use Rattle.lines.specs.Laws.Ascii.{ascii_lines}
 use Rattle.store_spec.specs.Store.{used, entries, is_sound, with_count, largest}
-use Rattle.store_spec.specs.Sound.{sound}
+use Rattle.store_spec.proofs.Sound.{sound}
 use Rattle.answers.specs.declared.Answer.{Answer}
 use Rattle.answers.specs.declared.Refusal.{Refusal}
 use Rattle.answers.specs.Told.{refusal_number, refused, accepted, accepted_with}

@@ -1,7 +1,7 @@
 -- `lexicon::oldest` meets its contract: behind the slot that the search tells stands the first entry wanted. Assumes nothing.
 use Rattle.store_spec.specs.Adding.{seek}
 use Rattle.store_spec.proofs.Laws.Found.{tells}
-use Rattle.store_spec.specs.Sound.{sound}
+use Rattle.store_spec.proofs.Sound.{sound}
 use Rattle.store_spec.specs.Store.{next, used, is_wanted}
 use mathlib.Core.Bool.{true}
 use mathlib.Core.Path.{◌≡◌, sym, ◌∙◌}

@@ -2,7 +2,7 @@
 use Rattle.lexicon_spec.proofs.Exact.{none_exact}
 use Rattle.store_spec.proofs.Laws.Exact.{has_exact, all_ordinary}
 use Rattle.store_spec.proofs.Laws.Found.{found_none}
-use Rattle.store_spec.specs.Sound.{sound}
+use Rattle.store_spec.proofs.Sound.{sound}
 use Rattle.store_spec.specs.Store.{used, entries}
 use mathlib.Core.Bool.{false}
 use mathlib.Core.Path.{◌≡◌, refl, sym, ◌∙◌}

@@ -11,7 +11,7 @@ use Rattle.records.specs.Fields.{u16_at, u32_at}
 use Rattle.data.specs.Sections.{is_phone_table, is_lts_index, is_lts_model, table_fits}
 use Rattle.data.specs.Places.{Placed, PhoneAt, phone_placed}
 use Rattle.trees.specs.Walk.{walk}
-use Rattle.trees.proofs.Walk.{walk_leaf}
+use Rattle.trees.proofs.WalkLaws.{walk_leaf}
 use Rattle.trees.specs.declared.Walked.TheVariants.{Phone, Damaged}
 use Rattle.lts_spec.specs.Letters.{is_trees, window, letter}
 use Rattle.lts_spec.proofs.Letters.{letter_left, letter_right, letter_walked, trees_table, trees_model}

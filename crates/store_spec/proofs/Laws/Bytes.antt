@@ -1,4 +1,4 @@
--- Theorems about `specs/Laws/Bytes.antt`: What each write into a store changes: a next field, a field of slot 0, a slot written whole. Links and slots elsewhere are as they were.
+-- What each write into a store changes: a next field, a field of slot 0, a slot written whole. Links and slots elsewhere are as they were.
 -- Assumes nothing.
 use Rattle.std.specs.Prelude.{ℕ, ◌+◌, ◌*◌, ◌%◌, ◌/◌, ◌≤◌, ◌<◌, ◌≡◌, ◌≢◌, length, get_or, drop, set}
 use Rattle.std.proofs.Common.{zero-add, ◌∙◌, get_or-set_other, drop-set-lt}
@@ -8,11 +8,15 @@ use Rattle.std.proofs.Math.Path.{sym, ap}
 use Rattle.std.proofs.Math.Bool.{true}
 use mathlib.Core.List.{List}
 use Rattle.records.specs.Fields.{u16_at, put16, u16_put_same, u16_put_other}
-use Rattle.records.specs.Records.{record_at, u16_of, put_record_same, put_record_other, put16_same, put16_other}
+use Rattle.records.specs.Records.{record_at, put_record, u16_of, put_record_same, put_record_other, put16_same, put16_other}
 use Rattle.slots_spec.specs.Slot.{Entry, Fits, slot, entry_of, is_slot}
 use Rattle.slots_spec.proofs.Slot.{slot_put, slot_next, slot_of, slot_is_slot, length_slot}
 use Rattle.store_spec.specs.Store.{next, last, used, entry_at}
-use Rattle.store_spec.specs.Laws.Bytes.{Kept, wrote}
+
+-- a slot is sound as it was, and holds the entry it held
+pub record Kept (b c : List ℕ) (n : ℕ) : Type 0 where
+  pub sound : is_slot (record_at 512 b n) ≡ true → is_slot (record_at 512 c n) ≡ true
+  pub entry : entry_at c n ≡ entry_at b n
 
 pub kept_same : (b c : List ℕ) (n : ℕ) → record_at 512 c n ≡ record_at 512 b n → Kept b c n
 unfolding entry_at
@@ -104,6 +108,9 @@ module _ (b : List ℕ) (o v : ℕ) (field : (2 ≤ o) × (o ≤ 4)) where
 
 -- slot n written whole
 module _ (b : List ℕ) (n : ℕ) (e : Entry) (f : Fits e) (fits : 512 * n + 512 ≤ length b) where
+  abbrev pub wrote : List ℕ
+  wrote = put_record 512 b n (slot 0 e)
+
   pub wrote_here : record_at 512 wrote n ≡ slot 0 e
   wrote_here = put_record_same 512 b n (slot 0 e) fits (length_slot 0 e f)
 

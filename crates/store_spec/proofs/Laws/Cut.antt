@@ -14,8 +14,7 @@ use Rattle.records.specs.Records.{record_at}
 use Rattle.records.specs.Chain.{All, Linked, end_of, all_left, all_right, all_end, end_append, distinct, cut}
 use Rattle.store_spec.specs.Store.{next, last, used}
 use Rattle.store_spec.specs.Adding.{cut_out}
-use Rattle.store_spec.specs.Laws.Bytes.{Kept}
-use Rattle.store_spec.proofs.Laws.Bytes.{kept_same, kept_kept, next_same, next_other, next_used, next_record, next_kept, next_zeros, field_next, field_record, field_zeros}
+use Rattle.store_spec.proofs.Laws.Bytes.{Kept, kept_same, kept_kept, next_same, next_other, next_used, next_record, next_kept, next_zeros, field_next, field_record, field_zeros}
 
 -- the number behind a slot of the chain is one of the chain, or 0
 behind : (f : ℕ → ℕ) (p top : ℕ) (xs : List ℕ) → Linked f p xs → All (λ (n : ℕ). n ≤ top) xs → f p ≤ top

@@ -12,8 +12,8 @@ use Rattle.store_spec.specs.Store.{next, used, entry_at, entries}
 use Rattle.store_spec.specs.Adding.{seek}
 use Rattle.store_spec.specs.Sound.{Slot, Sound}
 use Rattle.store_spec.proofs.Sound.{entries_are}
-use Rattle.store_spec.specs.Laws.Sought.{Sought, none, found}
-use Rattle.store_spec.proofs.Laws.Sought.{sought}
+use Rattle.store_spec.specs.Laws.Sought.{none, found}
+use Rattle.store_spec.proofs.Laws.Sought.{Sought, sought}
 use Rattle.store_spec.proofs.Laws.Keys.{either_false, some_append, some_here}
 use Rattle.store_spec.proofs.Result.{within}
 

@@ -11,8 +11,7 @@ use Rattle.slots_spec.specs.Slot.{Entry, Fits}
 use Rattle.store_spec.specs.Store.{next, last, used, entry_at, same_key, keys_differ}
 use Rattle.store_spec.specs.Adding.{without, adding, cut_out, tied}
 use Rattle.store_spec.specs.Sound.{Slot, Sound}
-use Rattle.store_spec.specs.Laws.Bytes.{Kept}
-use Rattle.store_spec.proofs.Laws.Bytes.{kept_kept}
+use Rattle.store_spec.proofs.Laws.Bytes.{Kept, kept_kept}
 use Rattle.store_spec.proofs.Laws.Keys.{without_one}
 use Rattle.store_spec.specs.Laws.Sought.{none}
 use Rattle.store_spec.proofs.Laws.Cut.{from, cut_linked, cut_length, cut_last, cut_used, cut_kept, cut_other, cut_zeros, not_last}

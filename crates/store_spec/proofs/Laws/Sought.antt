@@ -1,6 +1,6 @@
--- Theorems about `specs/Laws/Sought.antt`: What a search along the chain comes to.
+-- What a search along the chain comes to.
 -- Assumes nothing.
-use Rattle.std.specs.Prelude.{ℕ, zero, suc, ◌≤◌, ◌≡◌, refl, Bool, false, List, [], ◌∷◌, length}
+use Rattle.std.specs.Prelude.{ℕ, zero, suc, ◌≤◌, ◌≡◌, refl, Bool, true, false, List, [], ◌∷◌, ◌++◌, map, length}
 use Rattle.std.proofs.Common.{not-suc-le-zero, le_of_suc-le-suc, ap, eq-eqb, ne_eqb}
 use Rattle.texts.specs.Choice.{cases}
 use Rattle.texts.specs.Lists.{some}
@@ -8,7 +8,11 @@ use Rattle.records.specs.Chain.{Linked, end_of}
 use Rattle.slots_spec.specs.Slot.{Entry}
 use Rattle.store_spec.specs.Store.{next, entry_at}
 use Rattle.store_spec.specs.Adding.{seek}
-use Rattle.store_spec.specs.Laws.Sought.{Sought, none, found}
+
+-- what a search comes to: the end, or a slot with the first wanted entry behind the one it tells
+pub data Sought (b : List ℕ) (wanted : Entry → Bool) (p at : ℕ) (xs : List ℕ) : Type 0 where
+  none : some wanted (map (entry_at b) xs) ≡ false → at ≡ end_of p xs → next b at ≡ 0 → Sought b wanted p at xs
+  found : (ys zs : List ℕ) (s : ℕ) → xs ≡ ys ++ s ∷ zs → at ≡ end_of p ys → next b at ≡ s → some wanted (map (entry_at b) ys) ≡ false → wanted (entry_at b s) ≡ true → Sought b wanted p at xs
 
 pub sought : (b : List ℕ) (wanted : Entry → Bool) (n p : ℕ) (xs : List ℕ) → Linked (next b) p xs → length xs ≤ n → Sought b wanted p (seek b wanted n p) xs
 unfolding seek some end_of

@@ -13,8 +13,7 @@ use Rattle.slots_spec.specs.Slot.{Entry, Fits, slot, entry_of, is_slot}
 use Rattle.slots_spec.proofs.Slot.{slot_is_slot, slot_entry, length_slot}
 use Rattle.store_spec.specs.Store.{next, last, used, entry_at}
 use Rattle.store_spec.specs.Adding.{tied}
-use Rattle.store_spec.specs.Laws.Bytes.{Kept, wrote}
-use Rattle.store_spec.proofs.Laws.Bytes.{kept_same, kept_kept, next_same, next_other, next_used, next_record, next_kept, next_zeros, field_next, field_record, field_zeros, wrote_here, wrote_other, wrote_next, wrote_zero, wrote_field}
+use Rattle.store_spec.proofs.Laws.Bytes.{Kept, kept_same, kept_kept, next_same, next_other, next_used, next_record, next_kept, next_zeros, field_next, field_record, field_zeros, wrote, wrote_here, wrote_other, wrote_next, wrote_zero, wrote_field}
 
 -- slot n tied behind the last
 module _ (b : List ℕ) (n : ℕ) (e : Entry) (xs : List ℕ) (h : Linked (next b) 0 xs) (end : end_of 0 xs ≡ last b) (real : n ≢ 0) (new : All (λ (x : ℕ). x ≢ n) xs)

@@ -1,7 +1,7 @@
--- Theorems about `specs/Laws/Behind.antt`: Lists of items and their chains: what is tied behind a chain, and a chain told from its other end.
+-- Lists of items and their chains: what is tied behind a chain, and a chain told from its other end.
 -- Assumes nothing.
 use Rattle.std.specs.Prelude.{ℕ, zero, suc, ◌+◌, ◌≤◌, ◌<◌, ◌≡◌, refl, ◌≢◌}
-use Rattle.std.proofs.Common.{arith, sym, ◌∙◌}
+use Rattle.std.proofs.Common.{add-zero, arith, sym, ap, ◌∙◌}
 use mathlib.Core.List.{List, [], ◌∷◌, ◌++◌, reverse_aux}
 use Rattle.texts.specs.Lists.{from}
 use Rattle.records.specs.Chain.{All, Distinct, Linked, end_of, all_map, all_append, all_end, distinct, frame}
@@ -25,6 +25,11 @@ pub head_append : (d : ℕ) (xs ys : List ℕ) → head_or d (xs ++ ys) ≡ head
 head_append d [] ys = refl
 head_append d (x ∷ xs) ys = refl
 
+pub head_reverse : (d : ℕ) (xs zs : List ℕ) → head_or d (reverse_aux xs zs) ≡ end_of (head_or d zs) xs
+unfolding end_of
+head_reverse d [] zs = refl
+head_reverse d (x ∷ xs) zs = head_reverse d xs (x ∷ zs)
+
 -- two lists with no number in common
 pub distinct_append : (xs ys : List ℕ) → Distinct xs → Distinct ys → All (λ (x : ℕ). All (λ (y : ℕ). x ≢ y) ys) xs → Distinct (xs ++ ys)
 distinct_append [] ys h k a = k
@@ -33,6 +38,17 @@ distinct_append (x ∷ xs) ys h k a = (all_append (λ (y : ℕ). x ≢ y) xs ys 
 pub distinct_right : (xs ys : List ℕ) → Distinct (xs ++ ys) → Distinct ys
 distinct_right [] ys h = h
 distinct_right (x ∷ xs) ys h = distinct_right xs ys h.1
+
+-- numbers from k on
+pub from_append : (k m n : ℕ) → from k (m + n) ≡ from k m ++ from (k + m) n
+unfolding from
+from_append k zero n =
+    let e : 0 + n ≡ n = omega arith in
+    rw (e, add-zero)
+from_append k (suc m) n =
+    let e : suc m + n ≡ suc (m + n) = omega arith in
+    let f : k + suc m ≡ suc k + m = omega arith in
+    rw (e, f) (ap (λ (l : List ℕ). k ∷ l) (from_append (suc k) m n))
 
 pub all_from : (k m : ℕ) → All (λ (x : ℕ). (k ≤ x) × (x < k + m)) (from k m)
 unfolding from
@@ -77,6 +93,11 @@ pub backed_linked : (f : ℕ → ℕ) (q p : ℕ) (xs zs : List ℕ) → f p ≡
 unfolding end_of
 backed_linked f q p [] zs e r h k = k p e
 backed_linked f q p (x ∷ xs) zs e r h k = backed_linked f x p xs (x ∷ zs) e r.1 h.1 (λ i z. (z, r.0, k x h.0))
+
+-- the first of a chain, and a chain begun at another record
+pub linked_head : (f : ℕ → ℕ) (p : ℕ) (xs : List ℕ) → Linked f p xs → f p ≡ head_or 0 xs
+linked_head f p [] h = h
+linked_head f p (x ∷ xs) h = h.0
 
 pub moved : (f g : ℕ → ℕ) (p q : ℕ) (xs : List ℕ) → g q ≡ f p → All (λ (x : ℕ). g x ≡ f x) xs → Linked f p xs → Linked g q xs
 moved f g p q [] e a h = e ∙ h

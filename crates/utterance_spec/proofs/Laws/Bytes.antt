@@ -1,27 +1,33 @@
--- Theorems about `specs/Laws/Bytes.antt`: A word put last, said of bytes: the items grow by it, items that are sound by themselves stay so, and all others keep their bytes.
+-- A word put last, said of bytes: the items grow by it, items that are sound by themselves stay so, and all others keep their bytes.
 -- Assumes nothing.
-use Rattle.std.specs.Prelude.{ℕ, ◌+◌, ◌≤◌, ◌<◌, ◌≡◌, ◌≢◌}
+use Rattle.std.specs.Prelude.{ℕ, suc, ◌+◌, ◌*◌, ◌≤◌, ◌<◌, ◌≡◌, ◌≢◌}
 use Rattle.std.proofs.Common.{arith, sym, ◌∙◌}
 use Rattle.std.proofs.Math.Decide.{ℕ_discrete}
-use Rattle.std.proofs.Math.Path.{ap, subst}
+use Rattle.std.proofs.Math.Path.{refl, ap, subst}
 use Rattle.std.proofs.Math.Bool.{true}
 use mathlib.Core.List.{List, [], ◌∷◌}
 use Rattle.std.proofs.Math.ListN.{length}
-use Rattle.texts.specs.Lists.{from}
+use Rattle.texts.specs.Lists.{from, length_from}
 use Rattle.records.specs.Fields.{put16}
 use Rattle.records.specs.Records.{record_at, length_record_at}
-use Rattle.records.specs.Chain.{All, all_map, all_end}
+use Rattle.records.specs.Chain.{All, end_of, all_map, all_end}
 use Rattle.items_spec.specs.Item.{item_of, is_word_item, is_syllable_item, is_phone_item, is_head_item, fits, is_item, is_head}
 use Rattle.items_spec.proofs.Laws.Patched.{patch_clean, patch_next, patch_follow}
-use Rattle.utterance_spec.specs.Tree.{Word}
+use Rattle.utterance_spec.specs.Tree.{Word, phones_in}
 use Rattle.utterance_spec.specs.Sheet.{at, used, items, version}
-use Rattle.utterance_spec.specs.Append.{head_or, size, numbered, word_items, appended, is_said}
+use Rattle.utterance_spec.specs.Append.{head_or, size, numbered, word_items, put_items, tied, appended, is_said}
 use Rattle.utterance_spec.proofs.Laws.Behind.{all_from}
-use Rattle.utterance_spec.specs.Laws.Places.{all_phones_in, word_items_lem}
-use Rattle.utterance_spec.specs.Laws.Grown.{Grown, with_word}
-use Rattle.utterance_spec.proofs.Laws.Wrote.{Wrote, wrote_are, wrote_items, wrote_kept, wrote_other, wrote_new}
-use Rattle.utterance_spec.proofs.Laws.Tied.{Holds, tied_other, tied_word, tied_phone, tied_head}
-use Rattle.utterance_spec.specs.Laws.Bytes.{length_word, n, lw, lp, ps, a, l, c₀, c, good, wide, is_c}
+use Rattle.utterance_spec.proofs.Laws.Places.{numbered_alike, all_phones_in, word_items_lem}
+use Rattle.utterance_spec.proofs.Laws.Said.{length_syllables}
+use Rattle.utterance_spec.proofs.Laws.Grown.{Grown, with_word}
+use Rattle.utterance_spec.proofs.Laws.Wrote.{Good, Wrote, word_good, wrote_are, wrote_items, wrote_kept, length_wrote, wrote_other, wrote_new}
+use Rattle.utterance_spec.proofs.Laws.Tied.{Holds, length_tied, tied_other, tied_word, tied_phone, tied_head}
+
+pub length_word : (n q : ℕ) (w : Word) → length (word_items n q w) ≡ size w
+unfolding word_items
+length_word n q w =
+    ap suc (length_syllables n q (numbered (n + 1) w.syllables) w.syllables (numbered_alike (n + 1) w.syllables))
+    ∙ ap (λ (l : List ℕ). length l) (word_items_lem n w) ∙ length_from n (size w)
 
 all_head : (P : ℕ → Type 0) (d : ℕ) (xs : List ℕ) → P d → All P xs → P (head_or d xs)
 all_head P d [] h a = h
@@ -38,6 +44,36 @@ follow_fits r v l h k = rw (patch_clean r 12 v l (omega arith), patch_follow r v
 
 module _ (b : List ℕ) (w : Word) (short : length b ≤ 65536) (room : used b + size w < items b) (may : is_said (version b) w ≡ true)
     (inw : (at b 0).last ≤ used b) (inp : (at b 0).prev ≤ used b) (apart : (at b 0).last ≢ 0 → (at b 0).last ≢ (at b 0).prev) where
+  abbrev n : ℕ
+  n = used b + 1
+
+  abbrev lw : ℕ
+  lw = (at b 0).last
+
+  abbrev lp : ℕ
+  lp = (at b 0).prev
+
+  abbrev ps : List ℕ
+  ps = phones_in (numbered (n + 1) w.syllables)
+
+  abbrev a : ℕ
+  a = head_or 0 ps
+
+  abbrev l : ℕ
+  l = end_of lp ps
+
+  abbrev c₀ : List ℕ
+  c₀ = put_items b n (word_items n lp w)
+
+  abbrev c : List ℕ
+  c = tied c₀ lw lp n a l (used b + size w)
+
+  good : Good (word_items n lp w)
+  good = word_good (version b) n lp w may
+
+  wide : 64 * (n + length (word_items n lp w)) ≤ length b
+  wide = rw (length_word n lp w) (omega arith)
+
   -- the numbers are small
   small_phones : All (λ (x : ℕ). x < n + size w) ps
   small_phones =
@@ -57,6 +93,13 @@ module _ (b : List ℕ) (w : Word) (short : length b ≤ 65536) (room : used b +
 
   long : (j : ℕ) → j ≤ used b → length (record_at 64 b j) ≡ 64
   long j h = length_record_at 64 b j (omega arith)
+
+  is_c : appended b w ≡ c
+  unfolding appended
+  is_c = refl
+
+  pub length_appended : length (appended b w) ≡ length b
+  length_appended = rw is_c (length_tied c₀ lw lp n a l (used b + size w) ∙ length_wrote b n (word_items n lp w) good wide)
 
   -- the record of each item
   pub appended_kept : (j : ℕ) → j ≢ 0 → j ≢ lw → j ≢ lp → (used b < j → used b + size w < j) → record_at 64 (appended b w) j ≡ record_at 64 b j

@@ -1,4 +1,4 @@
--- Theorems about `specs/Laws/Grown.antt`: A word put last, said of items and not of bytes: the tree has it last, both chains of phones go on to its phones, and all other words read as before.
+-- A word put last, said of items and not of bytes: the tree has it last, both chains of phones go on to its phones, and all other words read as before.
 -- Assumes nothing.
 use Rattle.std.specs.Prelude.{ℕ, ◌+◌, ◌≤◌, ◌<◌, ◌≡◌, refl, ◌≢◌, true}
 use Rattle.std.proofs.Common.{arith, ◌∙◌, eq-eqb, ne_eqb}
@@ -10,18 +10,54 @@ use Rattle.texts.specs.Choice.{if◌then◌else◌}
 use Rattle.texts.specs.Lists.{every, from}
 use Rattle.records.specs.Chain.{All, Distinct, Linked, end_of, all_map, all_append, all_end, end_append}
 use Rattle.items_spec.specs.Item.{Item}
-use Rattle.utterance_spec.specs.Tree.{Word, WordAt, words_at, phones_at, items_at, SungIn, Sung, sibling, prev, follow, Children, Tree, syllable_at, word_at}
-use Rattle.utterance_spec.specs.Append.{head_or, size, numbered, place_of, is_syllable}
-use Rattle.utterance_spec.proofs.Laws.Behind.{all_both, all_reverse, reverse_append, distinct_append, all_from, distinct_from, onto_linked, backed_linked, moved, join}
-use Rattle.utterance_spec.specs.Laws.Walked.{word_kinds}
-use Rattle.utterance_spec.specs.Laws.Places.{all_phones_in, all_phones, all_words, word_items_lem}
-use Rattle.utterance_spec.proofs.Laws.Places.{words_append, phones_append, items_append, sung_append, tree_append, read_append, sung_read, place_items}
-use Rattle.utterance_spec.specs.Laws.Kept.{retied}
-use Rattle.utterance_spec.proofs.Laws.Kept.{Kept, kept_by, words_say, words_sung, words_kept}
-use Rattle.utterance_spec.proofs.Laws.Said.{Said, said}
-use Rattle.utterance_spec.specs.Laws.Grown.{Grown, back_end, lw, lp, ps, grown}
+use Rattle.utterance_spec.specs.Tree.{Word, WordAt, words_at, phones_in, phones_at, items_at, SungIn, Sung, sibling, prev, follow, Children, Tree, syllable_at, word_at}
+use Rattle.utterance_spec.specs.Append.{head_or, size, numbered, place_of, word_items, is_syllable}
+use Rattle.utterance_spec.proofs.Laws.Behind.{all_both, all_reverse, reverse_append, head_reverse, distinct_append, all_from, distinct_from, onto_linked, backed_linked, linked_head, moved, join}
+use Rattle.utterance_spec.proofs.Laws.Walked.{word_kinds}
+use Rattle.utterance_spec.proofs.Laws.Places.{words_append, phones_append, items_append, sung_append, tree_append, read_append, all_phones_in, all_phones, all_words, sung_read, word_items_lem, place_items}
+use Rattle.utterance_spec.proofs.Laws.Kept.{Kept, retied, kept_by, words_say, words_sung, words_kept}
+use Rattle.utterance_spec.proofs.Laws.Said.{Are, Said, said}
+
+-- item 0 with word n as its last word, phones from a to l behind its phones, and u items used
+abbrev pub with_word : ℕ → ℕ → ℕ → ℕ → Item → Item
+with_word n a l u i =
+    record {
+      kind = i.kind;
+      stress = i.stress;
+      next = i.next;
+      first = if eqb i.last 0 then n else i.first;
+      last = n;
+      parent = u;
+      prev = l;
+      follow = if eqb i.prev 0 then a else i.follow;
+      mark = i.mark;
+      source = i.source;
+      text = i.text;
+    }
+
+-- how items T come from items S when word w is put last, from item n on, u items used then
+pub record Grown (S T : ℕ → Item) (n u : ℕ) (w : Word) : Type 0 where
+  pub head : T 0 ≡ with_word n (head_or 0 (phones_in (numbered (n + 1) w.syllables))) (end_of (S 0).prev (phones_in (numbered (n + 1) w.syllables))) u (S 0)
+  pub word : (S 0).last ≢ 0 → T (S 0).last ≡ retied n (S (S 0).last).follow (S (S 0).last)
+  pub phone : (S 0).prev ≢ 0 → T (S 0).prev ≡ retied (S (S 0).prev).next (head_or 0 (phones_in (numbered (n + 1) w.syllables))) (S (S 0).prev)
+  pub new : Are T (from n (size w)) (word_items n (S 0).prev w)
+  pub others : (j : ℕ) → j ≢ 0 → j < n → j ≢ (S 0).last → j ≢ (S 0).prev → T j ≡ S j
+
+-- the chain back begins at the last phone
+pub back_end : (S : ℕ → Item) (ws : List WordAt) → Linked (prev S) 0 (reverse (phones_at ws)) → (S 0).prev ≡ end_of 0 (phones_at ws)
+unfolding prev
+back_end S ws h = linked_head (prev S) 0 (reverse (phones_at ws)) h ∙ head_reverse 0 (phones_at ws) []
 
 module _ (S T : ℕ → Item) (n u : ℕ) (w : Word) (g : Grown S T n u w) where
+  abbrev lw : ℕ
+  lw = (S 0).last
+
+  abbrev lp : ℕ
+  lp = (S 0).prev
+
+  abbrev ps : List ℕ
+  ps = phones_in (numbered (n + 1) w.syllables)
+
   -- an old item keeps its fields
   kept : (i : ℕ) → i ≢ 0 → i < n → Kept S T lw lp i
   kept i r l = go (ℕ_discrete i lw) (ℕ_discrete i lp)
@@ -62,6 +98,9 @@ module _ (S T : ℕ → Item) (n u : ℕ) (w : Word) (g : Grown S T n u w) where
   keep_phone ne = ap (λ (x : Item). x.follow) g.head ∙ rw (ne_eqb lp 0 (λ z. ne (sym z)))
 
   module _ (real : n ≢ 0) (ws : List WordAt) (tree : Tree S ws) (each : All (λ (i : ℕ). (i ≢ 0) × (i < n)) (items_at ws)) where
+    abbrev grown : List WordAt
+    grown = ws ++ (place_of n w ∷ [])
+
     olds : All (Kept S T lw lp) (items_at ws)
     olds = all_map (λ (i : ℕ). (i ≢ 0) × (i < n)) (Kept S T lw lp) (items_at ws) (λ i h. kept i h.0 h.1) each
 

@@ -1,4 +1,4 @@
--- Theorems about `specs/Laws/Kept.antt`: A tree is as it was where its items keep their fields; only the last word has a new next word, and only the last phone a new next phone.
+-- A tree is as it was where its items keep their fields; only the last word has a new next word, and only the last phone a new next phone.
 -- Assumes nothing.
 use Rattle.std.specs.Prelude.{ℕ, ◌≡◌, refl, ◌≢◌, List, [], ◌∷◌, map}
 use Rattle.std.proofs.Common.{arith, sym, ap, ◌∙◌, eq-eqb}
@@ -6,7 +6,6 @@ use Rattle.records.specs.Chain.{All, all_map, all_left, all_right, frame}
 use Rattle.items_spec.specs.Item.{Item}
 use Rattle.utterance_spec.specs.Tree.{SyllableAt, WordAt, syllables_at, items_in, items_at, sibling, Children, Syllables, Words, SungIn, Sung, text_at, syllable_at, word_at}
 use Rattle.utterance_spec.proofs.Laws.Behind.{all_both}
-use Rattle.utterance_spec.specs.Laws.Kept.{retied}
 
 -- what item i of S keeps in T, where lw is the last word and lp the last phone
 pub record Kept (S T : ℕ → Item) (lw lp i : ℕ) : Type 0 where
@@ -22,6 +21,10 @@ pub record Kept (S T : ℕ → Item) (lw lp i : ℕ) : Type 0 where
   pub text : (T i).text ≡ (S i).text
   pub next : i ≢ lw → (T i).next ≡ (S i).next
   pub follow : i ≢ lp → (T i).follow ≡ (S i).follow
+
+-- an item with another next sibling x and another next phone y
+abbrev pub retied : ℕ → ℕ → Item → Item
+retied x y i = record { kind = i.kind; stress = i.stress; next = x; first = i.first; last = i.last; parent = i.parent; prev = i.prev; follow = y; mark = i.mark; source = i.source; text = i.text }
 
 module _ (S T : ℕ → Item) (lw lp : ℕ) where
   pub kept_by : (i x y : ℕ) → i ≢ 0 → T i ≡ retied x y (S i) → (i ≢ lw → x ≡ (S i).next) → (i ≢ lp → y ≡ (S i).follow) → Kept S T lw lp i

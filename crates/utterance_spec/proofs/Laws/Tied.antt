@@ -1,6 +1,6 @@
--- Theorems about `specs/Laws/Tied.antt`: The ties that putting a word last makes: item 0, the last word and the last phone are patched, and no other item changes.
+-- The ties that putting a word last makes: item 0, the last word and the last phone are patched, and no other item changes.
 -- Assumes nothing.
-use Rattle.std.specs.Prelude.{ℕ, ◌+◌, ◌≤◌, ◌<◌, ◌≡◌, refl, ◌≢◌, Bool, true, false, eqb, length}
+use Rattle.std.specs.Prelude.{ℕ, ◌+◌, ◌*◌, ◌≤◌, ◌<◌, ◌≡◌, refl, ◌≢◌, Bool, true, false, eqb, length}
 use Rattle.std.proofs.Common.{arith, sym, ◌∙◌, eq-eqb, ne_eqb}
 use Rattle.std.proofs.Math.Decide.{ℕ_discrete}
 use Rattle.std.proofs.Math.Path.{ap}
@@ -11,11 +11,28 @@ use Rattle.records.specs.Records.{record_at, put16_same, put16_other}
 use Rattle.items_spec.specs.Item.{Item, item_of, is_clean}
 use Rattle.items_spec.proofs.Laws.Patched.{patch_clean, patch_first, patch_last, patch_parent, patch_prev, patch_follow}
 use Rattle.utterance_spec.specs.Append.{word_link, tied}
-use Rattle.utterance_spec.specs.Laws.Grown.{with_word}
-use Rattle.utterance_spec.specs.Laws.Tied.{one, two, three, four}
+use Rattle.utterance_spec.proofs.Laws.Grown.{with_word}
 
 -- which records the ties change
 module _ (b : List ℕ) (lw lp n a l u : ℕ) where
+  abbrev one : List ℕ
+  one = put16 b (64 * lw + word_link lw) n
+
+  abbrev two : List ℕ
+  two = put16 one (64 * lp + 12) a
+
+  abbrev three : List ℕ
+  three = put16 two 6 n
+
+  abbrev four : List ℕ
+  four = put16 three 10 l
+
+  pub length_tied : length (tied b lw lp n a l u) ≡ length b
+  unfolding tied
+  length_tied =
+      length_put16 four 8 u ∙ length_put16 three 10 l ∙ length_put16 two 6 n ∙ length_put16 one (64 * lp + 12) a
+      ∙ length_put16 b (64 * lw + word_link lw) n
+
   inside : word_link lw + 1 < 64
   inside = cases (eqb lw 0) (λ e. rw e (omega arith)) (λ e. rw e (omega arith))
 

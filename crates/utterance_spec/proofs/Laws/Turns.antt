@@ -13,7 +13,7 @@ use Rattle.texts.specs.Lists.{every}
 use Rattle.records.specs.Chain.{chain, chain_more}
 use Rattle.items_spec.specs.Item.{Item}
 use Rattle.utterance_spec.specs.Sheet.{at, used, items, version, after, is_sung, is_chained, is_placed, walks, order}
-use Rattle.utterance_spec.specs.Decided.{placed}
+use Rattle.utterance_spec.proofs.Decided.{placed}
 
 -- an item of the sheet has 64 bytes
 -- an item that is well placed is inside the sheet

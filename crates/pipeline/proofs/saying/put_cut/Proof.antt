@@ -11,8 +11,8 @@ use Rattle.utterance_spec.specs.Tree.{Word}
 use Rattle.utterance_spec.specs.Sheet.{used, items, version}
 use Rattle.utterance_spec.specs.Cuts.{cut_word}
 use Rattle.utterance_spec.specs.Append.{size, size_in, appended}
-use Rattle.utterance_spec.specs.Decided.{sound}
-use Rattle.utterance_spec.specs.Appended.{few, last_word_in, last_phone_in}
+use Rattle.utterance_spec.proofs.Decided.{sound}
+use Rattle.utterance_spec.proofs.Appended.{few, last_word_in, last_phone_in}
 use Rattle.pipeline_spec.specs.Pronounced.{said}
 use Rattle.pipeline_spec.proofs.Laws.Handed.{Handed, handed}
 use Rattle.pipeline.proofs.saying.put_cut.Tie as tie

@@ -10,7 +10,7 @@ use lib.ListN.{length, take, length-take}
 use Rattle.texts.specs.Lists.{every}
 use Rattle.texts.specs.Text.{is_phone}
 use Rattle.store_spec.specs.Store.{entries}
-use Rattle.store_spec.specs.Sound.{sound}
+use Rattle.store_spec.proofs.Sound.{sound}
 use Rattle.answers.specs.Told.{accepted_with}
 use Rattle.pipeline_spec.specs.Pronounced.{Spoken, pronounced, phones, tables}
 use Rattle.pipeline_spec.specs.Cutting.{told_spoken}

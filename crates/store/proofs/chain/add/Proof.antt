@@ -2,7 +2,8 @@
 use Rattle.store_spec.proofs.Laws.Placed.{at, full_new, kept_new, full_known, kept_known}
 use Rattle.store_spec.proofs.Laws.Cut.{last_cut}
 use Rattle.store_spec.proofs.Result.{few, last_within}
-use Rattle.store_spec.specs.Sound.{Sound, sound}
+use Rattle.store_spec.specs.Sound.{Sound}
+use Rattle.store_spec.proofs.Sound.{sound}
 use Rattle.store_spec.specs.Adding.{seek}
 use Rattle.store_spec.specs.Store.{next, last, used, is_wanted}
 use lib.ListN.{length}

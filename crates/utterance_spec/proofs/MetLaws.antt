@@ -10,7 +10,7 @@ use Rattle.items_spec.specs.Item.{Item}
 use Rattle.utterance_spec.specs.Tree.{phones_at, items_at, follow}
 use Rattle.utterance_spec.specs.Sheet.{at, used}
 use Rattle.utterance_spec.specs.Sound.{Placed, Sound}
-use Rattle.utterance_spec.specs.Laws.Chained.{phones_of, phones_are}
+use Rattle.utterance_spec.proofs.Laws.Chained.{phones_of, phones_are}
 
 -- a phone among items is among their phones
 among_phones : (S : ℕ → Item) (i : ℕ) (xs : List ℕ) → (S i).kind ≡ 3 → any (eqb i) xs ≡ true → any (eqb i) (phones_of S xs) ≡ true

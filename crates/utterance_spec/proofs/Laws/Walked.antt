@@ -7,8 +7,8 @@ use Rattle.records.specs.Chain.{All, Linked, all_left, all_right, all_append}
 use Rattle.items_spec.specs.Item.{Item}
 use Rattle.utterance_spec.specs.Tree.{SyllableAt, WordAt, syllables_at, words_at, items_in, items_at, Children, Syllables, Words, Tree}
 use Rattle.utterance_spec.specs.Sheet.{after_syllable, after, is_parent, is_sibling}
-use Rattle.utterance_spec.specs.Laws.Ties.{Run, run_from, run_append, run_linked, or_else, or_up, or_on, after_phone_lem, after_syllable_lem, after_word, after_top, first_tie, Siblings, siblings_rest, siblings_tie, siblings_are, children_siblings}
-use Rattle.utterance_spec.specs.Laws.Parsed.{Good}
+use Rattle.utterance_spec.proofs.Laws.Ties.{Run, run_from, run_append, run_linked, or_else, or_up, or_on, after_phone_lem, after_syllable_lem, after_word, after_top, first_tie, Siblings, siblings_rest, siblings_tie, siblings_are, children_siblings}
+use Rattle.utterance_spec.proofs.Laws.Parsed.{Good}
 
 module _ (S : ℕ → Item) where
   -- a phone has no children

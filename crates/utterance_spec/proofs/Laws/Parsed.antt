@@ -12,7 +12,7 @@ use Rattle.records.specs.Chain.{All, Linked}
 use Rattle.items_spec.specs.Item.{Item}
 use Rattle.utterance_spec.specs.Tree.{SyllableAt, WordAt, syllables_at, words_at, items_in, items_at, Syllables, Words, Tree}
 use Rattle.utterance_spec.specs.Sheet.{after_syllable, after, is_parent, is_sibling}
-use Rattle.utterance_spec.specs.Laws.Ties.{Run, run_from, linked_run, or_else, or_up, or_on, or_none, after_phone_lem, after_syllable_lem, after_word, after_top, Tie, tie_first, tie_next, Siblings, siblings_none, siblings_more, siblings_children}
+use Rattle.utterance_spec.proofs.Laws.Ties.{Run, run_from, linked_run, or_else, or_up, or_on, or_none, after_phone_lem, after_syllable_lem, after_word, after_top, Tie, tie_first, tie_next, Siblings, siblings_none, siblings_more, siblings_children}
 
 module _ (S : ℕ → Item) where
   -- an item of the walk: its links agree, and a phone has no children

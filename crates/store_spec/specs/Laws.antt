@@ -1,3 +1,0 @@
--- Laws that only proofs use.
-pub mod Bytes
-pub mod Sought
