@@ -4,7 +4,6 @@ use Rattle.std.specs.Prelude.{ℕ, ◌≡◌, true, List, length}
 use Rattle.texts.specs.Lists.{every}
 use Rattle.records.specs.Chain.{All, Linked}
 use Rattle.utterance_spec.specs.Sheet.{at, used, version, after, is_sung, is_chained, is_placed}
-use Rattle.utterance_spec.proofs.Laws.Chained.{chained, sung}
 
 -- what the test says of items in reading order
 pub record Tested (b : List ℕ) (xs : List ℕ) : Type 0 where
