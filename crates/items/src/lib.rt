@@ -1,4 +1,7 @@
 // One item of the sheet (01, Store and sheet): 64 bytes, written whole and read.
+
+#![tactic(auto)]
+
 ghost use Rattle.std.specs.Prelude.{◌≡◌, ◌&&◌, ◌≤◌, eqb, leb, length};
 ghost use Rattle.texts.specs.Text.{ascii};
 ghost use Rattle.records.specs.Fields.{u16_at};

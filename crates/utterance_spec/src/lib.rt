@@ -1,1 +1,3 @@
 // The sheet, stated: definitions and laws, no functions. `utterance` and `appending` compute them.
+
+#![tactic(auto)]
