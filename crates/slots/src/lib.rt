@@ -1,4 +1,7 @@
 // One slot of the store (01, Store and sheet): 512 bytes that hold an entry, written whole and read.
+
+#![tactic(auto)]
+
 ghost use Rattle.std.specs.Prelude.{◌≡◌, map, ◌+◌, ◌/◌, ◌≤◌, ◌<◌, length};
 ghost use Rattle.std.proofs.Math.Seq.{paste};
 ghost use Rattle.texts.specs.Lists.{every};
