@@ -1,5 +1,8 @@
 // The lines of a text of entries (01, Lookup: Adding): where a line ends, what is before a "#", fields
 // parted by blanks, quote marks.
+
+#![tactic(auto)]
+
 ghost use Rattle.std.specs.Prelude.{◌≡◌, ◌≤◌, ◌<◌, length, drop};
 ghost use Rattle.texts.specs.Lists.{place};
 ghost use Rattle.texts.specs.Text.{blank};

@@ -1,4 +1,7 @@
 // Syllables (01, Syllables): the marks after the phones of a list, by maximal onset.
+
+#![tactic(auto)]
+
 ghost use Rattle.std.specs.Prelude.{◌≡◌, false, ◌||◌, [], ◌++◌, ◌/◌, ◌<◌, ◌≤◌, length, get_or, take, drop};
 ghost use Rattle.texts.specs.Choice.{if◌then◌else◌, bit};
 ghost use Rattle.texts.specs.Lists.{place};
