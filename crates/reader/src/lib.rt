@@ -1,5 +1,8 @@
 // `Reader` (01, Sections): a section and a position in it. What it takes is read by functions on a slice and a number;
 // those over the struct are thin, and proved by hand. No function outside this file has a reader.
+
+#![tactic(auto)]
+
 ghost use Rattle.std.specs.Prelude.{◌≡◌};
 ghost use Rattle.reader.specs.Reader.{byte_at, number_at, string_at};
 
