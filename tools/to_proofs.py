@@ -201,6 +201,8 @@ def main(crates):
             for d in f.decls():
                 if not d.stays:
                     moved.setdefault(mod, []).append(d.name)
+                    if d.word == "data":
+                        moved[mod] += re.findall(r"(?m)^\s+(?:pub )?(" + ID + r") :", d.text())
                     listing.append((crate, mod, d))
         for mod, f in files.items():
             if mod not in moved:
@@ -238,7 +240,7 @@ def asked(crate, mod, f, files):
         if not other.startswith("Laws."):
             said = {n for d, heads in flat(g.items, []) if d.stays for n in d.names() | set(re.findall(ID, " ".join(heads)))}
             lines += [re.sub(r"\{.*", "{" + ", ".join(n for n in re.sub(r".*\{|\}$", "", u).split(", ") if n.split(" as ")[-1].strip() in said) + "}", u) for u in g.uses if "{" in u]
-    for p in glob.glob(f"crates/{crate}/src/**/*.rt", recursive=True):
+    for p in glob.glob("crates/*/src/**/*.rt", recursive=True):
         lines += [l[6:].rstrip(";") for l in read(p).split("\n") if l.startswith("ghost use")]
     for u in lines:
         if u.startswith(f"use Rattle.{crate}.specs.{mod}.{{"):

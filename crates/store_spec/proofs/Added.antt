@@ -12,8 +12,7 @@ use Rattle.store_spec.specs.Store.{next, last, used, slots, entry_at, entries, s
 use Rattle.store_spec.specs.Adding.{seek, cut_out, tied, placed, added, is_full}
 use Rattle.store_spec.specs.Sound.{Slot, Sound}
 use Rattle.store_spec.proofs.Sound.{entries_are}
-use Rattle.store_spec.specs.Laws.Sought.{none, found}
-use Rattle.store_spec.proofs.Laws.Sought.{Sought, sought}
+use Rattle.store_spec.proofs.Laws.Sought.{Sought, none, found, sought}
 use Rattle.store_spec.specs.Result.{Added}
 use Rattle.store_spec.proofs.Laws.New.{added_new_lem, new_other}
 use Rattle.store_spec.proofs.Laws.Known.{added_known, known_other}

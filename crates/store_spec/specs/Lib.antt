@@ -4,3 +4,4 @@ pub mod Adding
 pub mod Sound
 pub mod SoundStore
 pub mod Result
+pub mod Laws

@@ -7,3 +7,4 @@ pub mod SoundSheet
 pub mod Decided
 pub mod Appended
 pub mod Cuts
+pub mod Laws

@@ -2,7 +2,8 @@
 use native.Mathlib.Omega.{arith}
 use Rattle.lexicon_spec.specs.Lookup.{chosen_entry}
 use Rattle.lexicon_spec.proofs.Lookup.{find_runtime, find_row, find_compiled}
-use Rattle.store_spec.proofs.Laws.Found.{found_at, found_none, found_some}
+use Rattle.store_spec.specs.Laws.Found.{found_at}
+use Rattle.store_spec.proofs.Laws.Found.{found_none, found_some}
 use Rattle.store_spec.specs.Store.{entries, entry_at}
 use Rattle.slots_spec.specs.Slot.{entry_of}
 use mathlib.Core.List.{List}

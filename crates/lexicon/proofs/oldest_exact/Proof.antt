@@ -1,6 +1,7 @@
 -- `lexicon::oldest_exact` meets its contract: a store without exact entries has none that is wanted. Assumes nothing.
 use Rattle.lexicon_spec.proofs.Exact.{none_exact}
-use Rattle.store_spec.proofs.Laws.Exact.{has_exact, all_ordinary}
+use Rattle.store_spec.specs.Laws.Exact.{has_exact}
+use Rattle.store_spec.proofs.Laws.Exact.{all_ordinary}
 use Rattle.store_spec.proofs.Laws.Found.{found_none}
 use Rattle.store_spec.proofs.Sound.{sound}
 use Rattle.store_spec.specs.Store.{used, entries}

@@ -1,6 +1,6 @@
--- Whether a store has an exact entry, told of its slots by number: where none has, all its entries are ordinary.
+-- Theorems about `specs/Laws/Exact.antt`: Whether a store has an exact entry, told of its slots by number: where none has, all its entries are ordinary.
 -- Assumes nothing.
-use Rattle.std.specs.Prelude.{ℕ, zero, suc, ◌+◌, ◌-◌, ◌*◌, ◌≤◌, ◌<◌, ◌≢◌, ◌≡◌, refl, Bool, true, false, ◌||◌, List, [], ◌∷◌, map, eqb, get_or}
+use Rattle.std.specs.Prelude.{ℕ, zero, suc, ◌+◌, ◌-◌, ◌*◌, ◌≤◌, ◌<◌, ◌≢◌, ◌≡◌, refl, true, false, List, [], ◌∷◌, map, eqb, get_or}
 use Rattle.std.proofs.Common.{arith, ap, ◌∙◌, eqb-true}
 use Rattle.std.proofs.lemmas.Bool.{eqb-false}
 use Rattle.texts.specs.Choice.{cases}
@@ -12,11 +12,7 @@ use Rattle.store_spec.specs.Store.{used, entry_at, entries}
 use Rattle.store_spec.specs.Sound.{Slot, Sound}
 use Rattle.store_spec.proofs.Sound.{entries_are}
 use Rattle.store_spec.proofs.Laws.Keys.{either_false}
-
--- one of the slots 1 to n holds an exact entry
-unfoldable pub has_exact : List ℕ → ℕ → Bool
-has_exact b zero = false
-has_exact b (suc n) = (entry_at b (suc n)).exact || has_exact b n
+use Rattle.store_spec.specs.Laws.Exact.{has_exact}
 
 -- byte 52 of slot n tells whether its entry is exact
 pub exact_at : (b : List ℕ) (n : ℕ) → eqb (get_or b (512 * n + 52) 0) 1 ≡ (entry_at b n).exact

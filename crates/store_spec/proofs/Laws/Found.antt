@@ -1,21 +1,20 @@
--- A search in a sound store, told of its entries: whether one is wanted, and the first that is.
+-- Theorems about `specs/Laws/Found.antt`: A search in a sound store, told of its entries: whether one is wanted, and the first that is.
 -- Assumes nothing.
-use Rattle.std.specs.Prelude.{ℕ, ◌≤◌, ◌≡◌, refl, ◌≢◌, Bool, true, false, not, List, [], ◌∷◌, ◌++◌, map, eqb}
+use Rattle.std.specs.Prelude.{ℕ, ◌≤◌, ◌≡◌, refl, ◌≢◌, Bool, true, false, List, [], ◌∷◌, ◌++◌, map}
 use Rattle.std.proofs.Common.{arith, ap, ◌∙◌, subst, eq-eqb, ne_eqb}
 use Rattle.std.proofs.lemmas.List.{map-append}
-use Rattle.texts.specs.Choice.{if◌then◌else◌}
-use Rattle.std.proofs.Math.Option.{Option, none as nothing, some as just}
+use Rattle.std.proofs.Math.Option.{none as nothing, some as just}
 use Rattle.texts.specs.Lists.{some, first}
 use Rattle.records.specs.Chain.{All, end_of, all_left, all_right, all_end}
 use Rattle.slots_spec.specs.Slot.{Entry}
-use Rattle.store_spec.specs.Store.{next, used, entry_at, entries}
+use Rattle.store_spec.specs.Store.{next, used, entry_at}
 use Rattle.store_spec.specs.Adding.{seek}
 use Rattle.store_spec.specs.Sound.{Slot, Sound}
 use Rattle.store_spec.proofs.Sound.{entries_are}
-use Rattle.store_spec.specs.Laws.Sought.{none, found}
-use Rattle.store_spec.proofs.Laws.Sought.{Sought, sought}
+use Rattle.store_spec.proofs.Laws.Sought.{Sought, none, found, sought}
 use Rattle.store_spec.proofs.Laws.Keys.{either_false, some_append, some_here}
 use Rattle.store_spec.proofs.Result.{within}
+use Rattle.store_spec.specs.Laws.Found.{found_at, Tells}
 
 first_append : (wanted : Entry → Bool) (xs ys : List Entry) (e : Entry) → some wanted xs ≡ false → wanted e ≡ true → first wanted (xs ++ e ∷ ys) ≡ just e
 unfolding first some
@@ -33,22 +32,11 @@ first_nothing wanted (x ∷ xs) n =
     let ih = first_nothing wanted xs s.1 in
     rw (s.0, ih)
 
--- the entry in slot n, none for slot 0
-abbrev pub found_at : List ℕ → ℕ → Option Entry
-found_at b n = if eqb n 0 then nothing else just (entry_at b n)
-
 pub found_none : (b : List ℕ) (n : ℕ) → n ≡ 0 → found_at b n ≡ nothing
 found_none b n e = rw (eq-eqb n 0 e)
 
 pub found_some : (b : List ℕ) (n : ℕ) → n ≢ 0 → found_at b n ≡ just (entry_at b n)
 found_some b n ne = rw (ne_eqb n 0 ne)
-
--- what the slot that a search tells says of the entries
-pub record Tells (b : List ℕ) (wanted : Entry → Bool) (p : ℕ) : Type 0 where
-  pub at : p ≤ used b
-  pub behind : next b p ≤ used b
-  pub whether : some wanted (entries b) ≡ not (eqb (next b p) 0)
-  pub which : first wanted (entries b) ≡ found_at b (next b p)
 
 pub tells : (b : List ℕ) (wanted : Entry → Bool) (s : Sound b) → Tells b wanted (seek b wanted (used b) 0)
 tells b wanted s = go (seek b wanted (used b) 0) (sought b wanted (used b) 0 s.chained s.linked (omega (arith, s.all)))

@@ -1,4 +1,4 @@
--- A number for each key, by which most keys are told apart: entries of one key have one hash.
+-- Theorems about `specs/Laws/Hashes.antt`: A number for each key, by which most keys are told apart: entries of one key have one hash.
 -- Assumes nothing.
 use Rattle.std.specs.Prelude.{ℕ, suc, ◌+◌, ◌-◌, ◌≤◌, ◌<◌, ◌≡◌, ◌≢◌, Bool, ◌||◌, List, [], ◌∷◌, ◌++◌, map, eqb, length, get_or, take, drop, set}
 use Rattle.std.proofs.Math.Numerals.{add-one}
@@ -9,20 +9,12 @@ use borrow.Author.Tests.{eq-eqb, ne_eqb}
 use Rattle.texts.specs.Choice.{is_false, never}
 use Rattle.texts.specs.Lists.{some}
 use Rattle.texts.specs.Text.{is}
-use Rattle.texts.specs.Laws.Mixed.{mixed}
 use Rattle.records.specs.Records.{front_byte}
 use Rattle.records.specs.Chain.{chain, chain_turn}
 use Rattle.slots_spec.specs.Slot.{Entry}
 use Rattle.store_spec.specs.Store.{entry_at, same_key}
 use Rattle.store_spec.proofs.Laws.Keys.{key_true, either_false}
-
--- the hash of an entry's key
-unfoldable pub hash_of : Entry → ℕ
-hash_of e = mixed e.tag e.word
-
--- that of the entry in slot n
-unfoldable pub hash_at : List ℕ → ℕ → ℕ
-hash_at b n = hash_of (entry_at b n)
+use Rattle.store_spec.specs.Laws.Hashes.{hash_of, hash_at, some_left}
 
 same_hash : (a b : Entry) → same_key a b ≡ true → hash_of b ≡ hash_of a
 unfolding hash_of
@@ -37,10 +29,6 @@ hash_absent b n (x ∷ xs) h =
     let k : same_key (entry_at b n) (entry_at b x) ≡ false =
     is_false (same_key (entry_at b n) (entry_at b x)) (λ e. never (eqb (hash_at b x) (hash_at b n)) (eq-eqb (hash_at b x) (hash_at b n) (same_hash (entry_at b n) (entry_at b x) e)) s.0) in
     rw (k, hash_absent b n xs s.1)
-
--- a hash sought in a list without stopping at it
-unfoldable pub some_left : ℕ → List ℕ → Bool → ℕ → Bool
-some_left m l found i = found || some (is m) (drop i l)
 
 module _ (m : ℕ) (l : List ℕ) (found : Bool) (i : ℕ) where
   pub some_met : i < length l → get_or l i 0 ≡ m → some_left m l found i ≡ some_left m l true (i + 1)

@@ -5,7 +5,8 @@ use borrow.Author.Tests.{eq-eqb, ne_eqb}
 use Rattle.store_spec.specs.Store.{next, used, slots, is_wanted, same_key}
 use Rattle.store_spec.specs.Adding.{seek, cut_out, tied, placed, added, is_full, kept, added_new, entry_for}
 use Rattle.store_spec.specs.Sound.{Sound}
-use Rattle.store_spec.proofs.Laws.Found.{Tells, tells}
+use Rattle.store_spec.specs.Laws.Found.{Tells}
+use Rattle.store_spec.proofs.Laws.Found.{tells}
 
 module _ (b : List ℕ) (tag : ℕ) (word phones : List ℕ) (exact : Bool) (s : Sound b) (p : ℕ) (told : p ≡ seek b (is_wanted exact false word tag) (used b) 0) where
   pub at : Tells b (is_wanted exact false word tag) p

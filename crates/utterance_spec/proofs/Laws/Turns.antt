@@ -1,4 +1,4 @@
--- One walk over the items in reading order decides whether each is well placed, each syllable is sung and the phones
+-- Theorems about `specs/Laws/Turns.antt`: One walk over the items in reading order decides whether each is well placed, each syllable is sung and the phones
 -- are chained: one law for a turn, an early stop and the end, and one that it asks what `is_sound` asks.
 -- Assumes nothing.
 use Prim.Native.Nat.{ℕ, zero, suc, ◌-◌, ◌≤◌, ◌<◌}
@@ -8,12 +8,13 @@ use Rattle.std.specs.Prelude.{◌≡◌, Bool, ◌&&◌, List, ◌∷◌}
 use Rattle.std.proofs.Math.Path.{refl}
 use Rattle.std.proofs.Math.Bool.{true, false, and-true, and-false}
 use Rattle.std.proofs.Math.Dec.{eqb}
-use Rattle.texts.specs.Choice.{if◌then◌else◌, cases, never, both_true}
+use Rattle.texts.specs.Choice.{cases, never, both_true}
 use Rattle.texts.specs.Lists.{every}
 use Rattle.records.specs.Chain.{chain, chain_more}
 use Rattle.items_spec.specs.Item.{Item}
 use Rattle.utterance_spec.specs.Sheet.{at, used, items, version, after, is_sung, is_chained, is_placed, walks, order}
 use Rattle.utterance_spec.proofs.Decided.{placed}
+use Rattle.utterance_spec.specs.Laws.Turns.{is_tied, last_phone, is_last, is_met, is_ordered}
 
 -- an item of the sheet has 64 bytes
 -- an item that is well placed is inside the sheet
@@ -22,15 +23,6 @@ placed_inside b n r h = let i = (placed b n h).0.inside in omega arith
 
 -- an item x behind phone q: it is tied to q both ways if it is a phone; the phone that items behind it are tied to; and q as the last phone
 module _ (S : ℕ → Item) where
-  unfoldable pub is_tied : ℕ → ℕ → Bool
-  is_tied q x = if eqb (S x).kind 3 then eqb (S q).follow x && eqb (S x).prev q else true
-
-  unfoldable pub last_phone : ℕ → ℕ → ℕ
-  last_phone q x = if eqb (S x).kind 3 then x else q
-
-  unfoldable pub is_last : ℕ → Bool
-  is_last q = eqb (S q).follow 0 && eqb (S 0).prev q
-
   pub last_inside : (n q x : ℕ) → q < n → x < n → last_phone q x < n
   unfolding last_phone
   last_inside n q x h k = cases (eqb (S x).kind 3) (λ e. rw e k) (λ e. rw e h)
@@ -57,14 +49,6 @@ module _ (S : ℕ → Item) where
       cases (is_sung S v x)
       (λ f. cases (is_tied q x) (λ t. rw (f, t, chained_tied q x xs t) h) (λ t. rw (f, t, chained_loose q x xs t, and-false)))
       (λ f. rw (f, and-false))
-
--- the one walk: item x behind phone q is as it should be; behind item p and phone q stand n such items, and then nothing
-unfoldable pub is_met : List ℕ → ℕ → ℕ → Bool
-is_met b q x = is_placed b x && (is_sung (at b) (version b) x && is_tied (at b) q x)
-
-unfoldable pub is_ordered : List ℕ → ℕ → ℕ → ℕ → Bool
-is_ordered b zero p q = eqb (after (at b) p) 0 && is_last (at b) q
-is_ordered b (suc n) p q = is_met b q (after (at b) p) && is_ordered b n (after (at b) p) (last_phone (at b) q (after (at b) p))
 
 -- and an item met is inside
 pub met_inside : (b : List ℕ) (q x : ℕ) → used b < items b → is_met b q x ≡ true → x < items b

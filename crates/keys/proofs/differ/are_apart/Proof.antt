@@ -8,7 +8,8 @@ use Rattle.records.specs.Records.{part_from}
 use Rattle.records.specs.Chain.{chain}
 use Rattle.store_spec.proofs.Laws.Turns.{keys_turn, keys_hit, keys_stop, keys_end}
 use Rattle.store_spec.specs.Store.{next, entry_at, keys_differ}
-use Rattle.store_spec.proofs.Laws.Hashes.{hash_at, hashes_turn}
+use Rattle.store_spec.specs.Laws.Hashes.{hash_at}
+use Rattle.store_spec.proofs.Laws.Hashes.{hashes_turn}
 use borrow.Author.Rules.{rules}
 use Rattle.keys.proofs.differ.are_apart.Statement.{statement}
 use Rattle.keys.proofs.differ.are_apart.Tie as tie

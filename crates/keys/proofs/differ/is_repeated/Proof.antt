@@ -7,7 +7,8 @@ use Rattle.texts.specs.Lists.{some}
 use Rattle.texts.specs.Text.{is}
 use Rattle.records.specs.Chain.{chain}
 use Rattle.store_spec.specs.Store.{next}
-use Rattle.store_spec.proofs.Laws.Hashes.{hash_at, hash_absent}
+use Rattle.store_spec.specs.Laws.Hashes.{hash_at}
+use Rattle.store_spec.proofs.Laws.Hashes.{hash_absent}
 use borrow.Author.Rules.{rules}
 use Rattle.keys.proofs.differ.is_repeated.Statement.{statement}
 use Rattle.keys.proofs.differ.is_repeated.Tie as tie

@@ -7,7 +7,8 @@ use mathlib.Core.Logic.{inl, inr}
 use lib.ListN.{length}
 use Rattle.texts.specs.Lists.{some}
 use Rattle.texts.specs.Text.{is}
-use Rattle.store_spec.proofs.Laws.Hashes.{some_left, some_met, some_passed, some_left_lem}
+use Rattle.store_spec.specs.Laws.Hashes.{some_left}
+use Rattle.store_spec.proofs.Laws.Hashes.{some_met, some_passed, some_left_lem}
 use borrow.Author.Rules.{rules}
 use Rattle.keys.proofs.hashes.has_hash.Statement.{statement}
 use Rattle.keys.proofs.hashes.has_hash.Tie as tie

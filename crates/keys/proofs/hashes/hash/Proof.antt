@@ -1,5 +1,5 @@
 -- `keys::hash` meets its contract: the tag, then the word mixed into it. Assumes nothing.
-use Rattle.store_spec.proofs.Laws.Hashes.{hash_of}
+use Rattle.store_spec.specs.Laws.Hashes.{hash_of}
 use borrow.Author.Rules.{rules}
 use Rattle.keys.proofs.hashes.hash.Statement.{statement}
 use Rattle.keys.proofs.hashes.hash.Tie as tie

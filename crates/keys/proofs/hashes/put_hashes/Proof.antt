@@ -7,7 +7,8 @@ use lib.ListN.{length, take, length-set}
 use Rattle.records.specs.Chain.{chain, chain_stop, chain_end}
 use Rattle.slots_spec.specs.Slot.{entry_of}
 use Rattle.store_spec.specs.Store.{next, entry_at}
-use Rattle.store_spec.proofs.Laws.Hashes.{hash_of, hash_at, hashed_turn, hashed_end}
+use Rattle.store_spec.specs.Laws.Hashes.{hash_of, hash_at}
+use Rattle.store_spec.proofs.Laws.Hashes.{hashed_turn, hashed_end}
 use borrow.Author.Rules.{rules}
 use Rattle.keys.proofs.hashes.put_hashes.Statement.{statement}
 use Rattle.keys.proofs.hashes.put_hashes.Tie as tie

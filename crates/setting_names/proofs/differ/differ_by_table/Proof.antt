@@ -5,7 +5,8 @@ use mathlib.Core.Logic.{◌≢◌}
 use mathlib.Core.List.{List}
 use Rattle.records.specs.Chain.{chain}
 use Rattle.settings_spec.specs.Settings.{next, name_at, named}
-use Rattle.settings_spec.proofs.Laws.Names.{first_lost, none_lost, lost_twice}
+use Rattle.settings_spec.specs.Laws.Names.{first_lost}
+use Rattle.settings_spec.proofs.Laws.Names.{none_lost, lost_twice}
 use borrow.Author.Rules.{rules}
 use Rattle.setting_names.proofs.differ.differ_by_table.Statement.{statement}
 use Rattle.setting_names.proofs.differ.differ_by_table.Tie as tie

@@ -4,7 +4,8 @@ use native.Mathlib.Omega.{arith}
 use mathlib.Core.Path.{◌≡◌, refl, sym, ap, ◌∙◌}
 use Rattle.records.specs.Chain.{chain}
 use Rattle.settings_spec.specs.Settings.{next, name_at}
-use Rattle.settings_spec.proofs.Laws.Names.{given, first_lost, lost_turn, lost_hit, lost_stop, lost_end}
+use Rattle.settings_spec.specs.Laws.Names.{given, first_lost}
+use Rattle.settings_spec.proofs.Laws.Names.{lost_turn, lost_hit, lost_stop, lost_end}
 use borrow.Author.Rules.{rules}
 use Rattle.setting_names.proofs.table.first_lost.Statement.{statement}
 use Rattle.setting_names.proofs.table.first_lost.Tie as tie

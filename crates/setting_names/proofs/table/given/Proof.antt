@@ -6,7 +6,8 @@ use mathlib.Core.Bool.{true, false}
 use lib.ListN.{get_or}
 use Rattle.texts.specs.Text.{same}
 use Rattle.settings_spec.specs.Settings.{name_at}
-use Rattle.settings_spec.proofs.Laws.Names.{given, sought, sought_free, sought_hit, sought_turn, sought_end}
+use Rattle.settings_spec.specs.Laws.Names.{given, sought}
+use Rattle.settings_spec.proofs.Laws.Names.{sought_free, sought_hit, sought_turn, sought_end}
 use borrow.Author.Rules.{rules}
 use Rattle.setting_names.proofs.table.given.Statement.{statement}
 use Rattle.setting_names.proofs.table.given.Tie as tie

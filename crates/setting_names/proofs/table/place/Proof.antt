@@ -1,6 +1,6 @@
 -- `setting_names::place` meets its contract: the hash of a name, spread and cut to 4,096. Assumes nothing.
 use native.Mathlib.Omega.{arith}
-use Rattle.settings_spec.proofs.Laws.Names.{place_of}
+use Rattle.settings_spec.specs.Laws.Names.{place_of}
 use borrow.Author.Rules.{rules}
 use Rattle.setting_names.proofs.table.place.Statement.{statement}
 use Rattle.setting_names.proofs.table.place.Tie as tie

@@ -2,7 +2,7 @@
 use borrow.Author.Rules.{rules}
 use Rattle.sound_sheet.proofs.order.is_last.Statement.{statement}
 use borrow.Author.Tests.{eq-eqb, ne_eqb}
-use Rattle.utterance_spec.proofs.Laws.Turns.{is_last}
+use Rattle.utterance_spec.specs.Laws.Turns.{is_last}
 use Rattle.sound_sheet.proofs.order.is_last.Tie as tie
 
 follow-requires : tie.Need-follow-requires

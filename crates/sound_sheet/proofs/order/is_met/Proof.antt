@@ -6,7 +6,8 @@ use borrow.Author.Tests.{not-true, not-false}
 use mathlib.Core.Path.{◌≡◌, sym, ◌∙◌}
 use mathlib.Core.Bool.{true}
 use Rattle.utterance_spec.specs.Sheet.{items, is_placed}
-use Rattle.utterance_spec.proofs.Laws.Turns.{is_met, placed_inside}
+use Rattle.utterance_spec.specs.Laws.Turns.{is_met}
+use Rattle.utterance_spec.proofs.Laws.Turns.{placed_inside}
 use Rattle.sound_sheet.proofs.order.is_met.Tie as tie
 
 well_placed : (c : tie.Else1) → is_placed c.before.before.before.args.sheet.now c.before.before.before.args.x ≡ true

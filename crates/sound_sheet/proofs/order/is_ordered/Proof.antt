@@ -7,7 +7,8 @@ use native.Mathlib.Omega.{arith}
 use mathlib.Core.Path.{◌≡◌, sym, ap, ◌∙◌}
 use mathlib.Core.Bool.{true}
 use Rattle.utterance_spec.specs.Sheet.{at, used, items}
-use Rattle.utterance_spec.proofs.Laws.Turns.{is_met, is_ordered, ordered_turn, ordered_stop, ordered_end, met_inside, last_inside}
+use Rattle.utterance_spec.specs.Laws.Turns.{is_met, is_ordered}
+use Rattle.utterance_spec.proofs.Laws.Turns.{ordered_turn, ordered_stop, ordered_end, met_inside, last_inside}
 use Rattle.sound_sheet.proofs.order.is_ordered.Tie as tie
 
 abbrev invariant-loop : tie.invariant-loop

@@ -2,7 +2,7 @@
 use borrow.Author.Rules.{rules}
 use Rattle.sound_sheet.proofs.order.is_tied.Statement.{statement}
 use borrow.Author.Tests.{eq-eqb, ne_eqb}
-use Rattle.utterance_spec.proofs.Laws.Turns.{is_tied}
+use Rattle.utterance_spec.specs.Laws.Turns.{is_tied}
 use Rattle.sound_sheet.proofs.order.is_tied.Tie as tie
 
 kind-requires : tie.Need-kind-requires

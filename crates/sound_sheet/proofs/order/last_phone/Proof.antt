@@ -2,7 +2,7 @@
 use borrow.Author.Rules.{rules}
 use Rattle.sound_sheet.proofs.order.last_phone.Statement.{statement}
 use borrow.Author.Tests.{eq-eqb, ne_eqb}
-use Rattle.utterance_spec.proofs.Laws.Turns.{last_phone}
+use Rattle.utterance_spec.specs.Laws.Turns.{last_phone}
 use Rattle.sound_sheet.proofs.order.last_phone.Tie as tie
 
 kind-requires : tie.Need-kind-requires

@@ -1,5 +1,6 @@
 -- `store::has_exact` meets its contract: no slot passed is exact, so those below decide. Assumes nothing.
-use Rattle.store_spec.proofs.Laws.Exact.{has_exact, exact_at, exact_hit, exact_turn, exact_end}
+use Rattle.store_spec.specs.Laws.Exact.{has_exact}
+use Rattle.store_spec.proofs.Laws.Exact.{exact_at, exact_hit, exact_turn, exact_end}
 use Rattle.store_spec.specs.Store.{entry_at}
 use borrow.Author.Tests.{eq-eqb, ne_eqb}
 use lib.Dec.{eqb}
