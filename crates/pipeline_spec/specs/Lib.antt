@@ -2,3 +2,4 @@
 pub mod Pronounced
 pub mod Placing
 pub mod Cutting
+pub mod Laws

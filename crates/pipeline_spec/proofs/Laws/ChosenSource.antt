@@ -1,37 +1,23 @@
--- A chosen source that is none sends the word to the letter trees: a word by the answer of its lookup, in a room of 96 cells.
+-- Theorems about `specs/Laws/ChosenSource.antt`: A chosen source that is none sends the word to the letter trees: a word by the answer of its lookup, in a room of 96 cells.
 -- Assumes nothing.
-use Rattle.std.specs.Prelude.{ℕ, ◌*◌, ◌≤◌, ◌<◌, ◌≡◌, refl, false, List, eqb, ltb, length}
+use Rattle.std.specs.Prelude.{ℕ, ◌*◌, ◌≤◌, ◌<◌, ◌≡◌, refl, false, List, ltb, length}
 use Rattle.std.proofs.Common.{arith, ap, ltb-false, le-ltb}
 use Rattle.std.proofs.Math.Option.{Option, none, some}
-use Rattle.texts.specs.Choice.{if◌then◌else◌, cases}
+use Rattle.texts.specs.Choice.{cases}
 use Rattle.answers.specs.declared.Answer.{Answer}
 use Rattle.answers.specs.declared.Refusal.{Refusal}
 use Rattle.answers.specs.declared.Source.{Source}
 use Rattle.answers.specs.declared.Source.TheVariants.{Runtime, Addenda, Compiled}
 use Rattle.answers.specs.declared.Looked.{Looked}
 use Rattle.answers.specs.declared.Looked.TheVariants.{Refused, Nothing, Found}
-use Rattle.answers.specs.Told.{refusal_number, source_number, refused, accepted, accepted_with, told_looked}
+use Rattle.answers.specs.Told.{refusal_number, source_number, refused, accepted, told_looked}
 use Rattle.answers.specs.Laws.Numbers.{refused_never, never_accepted}
 use Rattle.lts_spec.specs.Call.{told_phones, out_phones}
 use Rattle.lexicon_spec.specs.Lookup.{Finding, nothing, damaged, found, told_finding, out_finding}
 use Rattle.pipeline_spec.specs.Pronounced.{on_letters, on_finding}
 use Rattle.pipeline_spec.specs.Cutting.{told_spoken, cells_spoken}
 use Rattle.lts_spec.specs.FewPhones.{Few}
-
--- an answer of predict as a word's: the letter trees are its source
-abbrev pub by_letters : Answer → Answer
-by_letters a = if eqb a.refusal 0 then accepted_with 4 a.value a.second 0 else a
-
--- what is answered behind a lookup, and the room: phones that were found stay
-abbrev pub told_behind : Looked → Option (List (List ℕ)) → ℕ → List ℕ → Answer
-told_behind (Found s n) from_letters place room = accepted_with (source_number s) n 0 0
-told_behind Nothing from_letters place room = by_letters (told_phones from_letters place room)
-told_behind (Refused r) from_letters place room = by_letters (told_phones from_letters place room)
-
-abbrev pub room_behind : Looked → Option (List (List ℕ)) → ℕ → List ℕ → List ℕ
-room_behind (Found s n) from_letters place room = room
-room_behind Nothing from_letters place room = out_phones from_letters place room
-room_behind (Refused r) from_letters place room = out_phones from_letters place room
+use Rattle.pipeline_spec.specs.Laws.ChosenSource.{by_letters, told_behind, room_behind}
 
 -- no source has the number 0
 source_number_lem : (s : Source) → 0 < source_number s

@@ -3,7 +3,7 @@ use mathlib.Core.Path.{◌≡◌, sym, ap, ◌∙◌}
 use Rattle.answers.specs.declared.Refusal.{Refusal}
 use Rattle.answers.specs.Told.{refusal_number, refused, told_predicted}
 use Rattle.answers.specs.Laws.Numbers.{not_zero}
-use Rattle.pipeline_spec.proofs.Laws.ChosenSource.{by_letters}
+use Rattle.pipeline_spec.specs.Laws.ChosenSource.{by_letters}
 use borrow.Author.Rules.{rules}
 use Rattle.pipeline.proofs.pronouncing.by_letters.Statement.{statement}
 use Rattle.pipeline.proofs.pronouncing.by_letters.Tie as tie

@@ -13,7 +13,7 @@ use denote.Enum.Declared.{tag_of}
 use Rattle.answers.specs.declared.Looked.{Looked}
 use Rattle.answers.specs.declared.Looked.TheVariants.{Refused, Nothing, Found}
 use Rattle.lts_spec.specs.Call.{told_phones, out_phones}
-use Rattle.pipeline_spec.proofs.Laws.ChosenSource.{by_letters, told_behind, room_behind}
+use Rattle.pipeline_spec.specs.Laws.ChosenSource.{by_letters, told_behind, room_behind}
 use Rattle.pipeline.proofs.pronouncing.spoken.Tie as tie
 
 no_source_lem : (a : Looked) (o : Option (List (List ℕ))) (place : ℕ) (room : List ℕ) → OneOf (0 ∷ 1 ∷ []) (tag_of looked.the_type a) → (by_letters (told_phones o place room) ≡ told_behind a o place room) × (out_phones o place room ≡ room_behind a o place room)

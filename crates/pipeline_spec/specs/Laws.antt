@@ -1,0 +1,2 @@
+-- Laws that only proofs use.
+pub mod ChosenSource

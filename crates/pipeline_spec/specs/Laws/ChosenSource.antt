@@ -1,0 +1,25 @@
+-- A chosen source that is none sends the word to the letter trees: a word by the answer of its lookup, in a room of 96 cells.
+-- Assumes nothing.
+use Rattle.std.specs.Prelude.{ℕ, List, eqb}
+use Rattle.std.proofs.Math.Option.{Option}
+use Rattle.texts.specs.Choice.{if◌then◌else◌}
+use Rattle.answers.specs.declared.Answer.{Answer}
+use Rattle.answers.specs.declared.Looked.{Looked}
+use Rattle.answers.specs.declared.Looked.TheVariants.{Refused, Nothing, Found}
+use Rattle.answers.specs.Told.{source_number, accepted_with}
+use Rattle.lts_spec.specs.Call.{told_phones, out_phones}
+
+-- an answer of predict as a word's: the letter trees are its source
+abbrev pub by_letters : Answer → Answer
+by_letters a = if eqb a.refusal 0 then accepted_with 4 a.value a.second 0 else a
+
+-- what is answered behind a lookup, and the room: phones that were found stay
+abbrev pub told_behind : Looked → Option (List (List ℕ)) → ℕ → List ℕ → Answer
+told_behind (Found s n) from_letters place room = accepted_with (source_number s) n 0 0
+told_behind Nothing from_letters place room = by_letters (told_phones from_letters place room)
+told_behind (Refused r) from_letters place room = by_letters (told_phones from_letters place room)
+
+abbrev pub room_behind : Looked → Option (List (List ℕ)) → ℕ → List ℕ → List ℕ
+room_behind (Found s n) from_letters place room = room
+room_behind Nothing from_letters place room = out_phones from_letters place room
+room_behind (Refused r) from_letters place room = out_phones from_letters place room
