@@ -1,4 +1,7 @@
 // Write setting (02, S-12): the value of one setting of a store.
+
+#![tactic(auto)]
+
 ghost use Rattle.std.specs.Prelude.{◌≡◌, true};
 ghost use Rattle.answers.specs.Told.{told_done, written};
 ghost use Rattle.records.specs.Fields.{put32};
