@@ -23,7 +23,7 @@ fn put(settings: &mut [u8], version: u32, name: &[u8], value: Setting) -> Done
     if !values::is_known(known) {
         return Done::Refused(Refusal::Records);
     }
-    let i = settings::record_of_lem(settings, name);
+    let i = settings::record_of(settings, name);
     if i == 0 {
         return Done::Refused(Refusal::Records);
     }
