@@ -74,3 +74,16 @@ loop-i-preserved c =
       l.invariant.6 ∙ rw (fit_turn s l.at (n - l.i) more r.fit, end_turn s l.at (n - l.i) more, k, r.stands),
       rw r.stands (places_turn s l.places n l.i l.at (omega arith) (omega arith) l.invariant.7),
     )
+
+pub returns : goal.returns
+unfolding Placed
+returns c =
+    let l = c.loop-i in
+    let s = c.args.s.now in
+    let n = c.in-Is.n in
+    let done : n ≡ l.i = omega arith in
+    let e = fit_end s l.at (n - l.i) (omega arith) in
+    record {
+      value = c.is_ascii.ensures ∙ sym (l.invariant.6 ∙ rw (e.0, e.1));
+      placed = λ _. (l.invariant.2, rw (← l.invariant.1) (places_end s l.places n l.i l.at done l.invariant.7));
+    }
