@@ -2,13 +2,11 @@
 use Prim.Native.Nat.{◌+◌, ◌-◌, ◌<◌}
 use native.Mathlib.Omega.{arith}
 use mathlib.Core.Path.{◌≡◌, sym, ◌∙◌}
-use mathlib.Core.Bool.{true}
 use lib.ListN.{drop, take, get_or}
 use Rattle.texts.specs.Choice.{never}
 use Rattle.texts.specs.Text.{same}
-use Rattle.texts.specs.Lists.{some}
-use Rattle.data.specs.Sections.{strings, table_phones, is_listed, listed_here, listed_behind, listed_end}
-use Rattle.data.specs.Places.{all_fit, table_fit, first_fits, fit_turn}
+use Rattle.data.specs.Sections.{table_phones, is_listed, listed_here, listed_behind, listed_end}
+use Rattle.data.specs.Places.{table_fit, first_fits, fit_turn}
 use Rattle.reader.specs.Reader.{StringTaken, string_taken, string_broken, fits}
 use Rattle.data.proofs.is_listed.Goals as goal
 

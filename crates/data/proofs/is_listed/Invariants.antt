@@ -1,15 +1,11 @@
 -- `data::is_listed` meets its contract: of the strings passed none is the phone, so those from `at` on, all of which fit, decide. Assumes nothing.
-use Prim.Native.Nat.{◌+◌, ◌-◌, ◌<◌}
-use native.Mathlib.Omega.{arith}
-use mathlib.Core.Path.{◌≡◌, sym, ◌∙◌}
+use mathlib.Core.Path.{◌≡◌}
 use mathlib.Core.Bool.{true}
-use lib.ListN.{drop, take, get_or}
-use Rattle.texts.specs.Choice.{never}
+use lib.ListN.{drop}
 use Rattle.texts.specs.Text.{same}
 use Rattle.texts.specs.Lists.{some}
-use Rattle.data.specs.Sections.{strings, table_phones, is_listed, listed_here, listed_behind, listed_end}
-use Rattle.data.specs.Places.{all_fit, table_fit, first_fits, fit_turn}
-use Rattle.reader.specs.Reader.{StringTaken, string_taken, string_broken, fits}
+use Rattle.data.specs.Sections.{strings, is_listed}
+use Rattle.data.specs.Places.{all_fit}
 use Rattle.data.proofs.is_listed.Given as goal
 
 abbrev pub invariant-loop-left : goal.invariant-loop-left

@@ -1,17 +1,13 @@
 -- `data::read_table` meets its contract: the strings passed fit and their places are written, so those left decide, and then the bytes of all. Assumes nothing.
-use Prim.Native.Nat.{ℕ, ◌+◌, ◌-◌, ◌*◌, ◌≤◌, ◌<◌, zero-le}
-use native.Mathlib.Omega.{arith}
-use mathlib.Core.Path.{◌≡◌, sym, ap, ◌∙◌}
+use Prim.Native.Nat.{◌+◌, ◌-◌, ◌*◌, ◌≤◌}
+use mathlib.Core.Path.{◌≡◌}
 use mathlib.Core.Bool.{◌&&◌}
 use mathlib.Core.List.{◌++◌}
-use lib.ListN.{length, take, drop, length-set}
-use borrow.Author.Tests.{le-leb, lt-leb}
+use lib.ListN.{length, take, drop}
 use Rattle.records.specs.Fields.{u32_at}
-use Rattle.texts.specs.Choice.{never}
 use Rattle.texts.specs.Text.{ascii}
 use Rattle.data.specs.Sections.{is_phone_table}
-use Rattle.data.specs.Places.{all_fit, end_of, places as places_of, Placed, fit_stop, fit_turn, end_turn, fit_end, good_fit, places_turn, places_end}
-use Rattle.reader.specs.Reader.{number_taken, number_broken, string_taken, string_broken, string_fits}
+use Rattle.data.specs.Places.{all_fit, end_of, places as places_of}
 use Rattle.data.proofs.read_table.Given as goal
 
 abbrev pub invariant-loop-i : goal.invariant-loop-i
