@@ -1,9 +1,8 @@
 // The compiled entries, stated: definitions and laws, no functions. `compiled` computes them.
 
-// An entry's number; or that there is none, or that an entry which was read is damaged.
-
 #![tactic(auto)]
 
+// An entry's number; or that there is none, or that an entry which was read is damaged.
 #[derive(Drop)]
 pub enum Chosen {
     Damaged,
