@@ -1,12 +1,12 @@
 -- `compiled::is_spoken` meets its contract: the numbers passed have phones, so the numbers left decide. Assumes nothing.
 use Rattle.compiled_spec.specs.Entries.{is_spoken}
-use Rattle.texts.specs.Lists.{every, every_turn, every_stop, every_end}
+use Rattle.texts.specs.Lists.{every_turn, every_stop, every_end}
 use borrow.Author.Tests.{lt-ltb, le-ltb}
-use lib.ListN.{length, drop, get_or}
+use lib.ListN.{get_or}
 use lib.Dec.{ltb}
-use mathlib.Core.Path.{◌≡◌, sym, ◌∙◌}
+use mathlib.Core.Path.{sym, ◌∙◌}
 use native.Mathlib.Omega.{arith}
-use Prim.Native.Nat.{ℕ, ◌≤◌, ◌-◌}
+use Prim.Native.Nat.{ℕ}
 use Rattle.compiled.proofs.entries.is_spoken.Goals as goal
 
 pub loop-i-init : goal.loop-i-init

@@ -1,11 +1,9 @@
 -- `compiled::is_spoken` meets its contract: the numbers passed have phones, so the numbers left decide. Assumes nothing.
 use Rattle.compiled_spec.specs.Entries.{is_spoken}
-use Rattle.texts.specs.Lists.{every, every_turn, every_stop, every_end}
-use borrow.Author.Tests.{lt-ltb, le-ltb}
-use lib.ListN.{length, drop, get_or}
+use Rattle.texts.specs.Lists.{every}
+use lib.ListN.{length, drop}
 use lib.Dec.{ltb}
-use mathlib.Core.Path.{◌≡◌, sym, ◌∙◌}
-use native.Mathlib.Omega.{arith}
+use mathlib.Core.Path.{◌≡◌}
 use Prim.Native.Nat.{ℕ, ◌≤◌, ◌-◌}
 use Rattle.compiled.proofs.entries.is_spoken.Given as goal
 

@@ -1,7 +1,7 @@
 -- `compiled::from_place` meets its contract: each return is decided by the first test of the definition that fails. Assumes nothing.
 use Rattle.compiled_spec.specs.Search.{from_place}
 use Rattle.compiled_spec.specs.Entries.{count}
-use borrow.Author.Tests.{not-true, not-false, lt-ltb, le-ltb}
+use borrow.Author.Tests.{lt-ltb, le-ltb}
 use mathlib.Core.Path.{sym, ◌∙◌}
 use native.Mathlib.Omega.{arith}
 use Rattle.compiled.proofs.search.from_place.Goals as goal

@@ -1,13 +1,11 @@
 -- `compiled::search` meets its contract: the search so far leaves the search between lo and hi. Assumes nothing.
-use Rattle.compiled_spec.specs.Search.{search as searched}
 use Rattle.compiled_spec.proofs.Search.{search_end, search_damaged, search_up, search_down}
 use Rattle.compiled_spec.specs.Entries.{word_of, is_whole, entry_at}
 use Rattle.texts.specs.Text.{smaller}
-use borrow.Author.Tests.{not-true, not-false}
 use mathlib.Core.Bool.{true, false}
 use mathlib.Core.Path.{◌≡◌, sym, ◌∙◌}
 use native.Mathlib.Omega.{arith}
-use Prim.Native.Nat.{◌+◌, ◌-◌, ◌/◌, ◌≤◌}
+use Prim.Native.Nat.{◌+◌, ◌-◌, ◌/◌}
 use Rattle.compiled.proofs.search.search.Goals as goal
 
 pub loop-lo-init : goal.loop-lo-init

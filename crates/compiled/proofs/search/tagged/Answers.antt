@@ -1,11 +1,9 @@
 -- `compiled::tagged` meets its contract: the entries passed have other tags, so the run from i on decides. Assumes nothing.
-use Rattle.compiled_spec.specs.Search.{tagged}
 use Rattle.compiled_spec.proofs.Search.{tagged_end, tagged_damaged, tagged_other, tagged_stop, tagged_turn}
 use Rattle.compiled_spec.specs.Entries.{tag_of, word_of, is_whole, entry_at}
 use Rattle.texts.specs.Text.{same}
-use borrow.Author.Tests.{not-true, not-false}
 use mathlib.Core.Bool.{true, false}
-use mathlib.Core.Path.{◌≡◌, refl, sym, ◌∙◌}
+use mathlib.Core.Path.{◌≡◌, sym, ◌∙◌}
 use native.Mathlib.Omega.{arith}
 use Prim.Native.Nat.{◌+◌, ◌-◌}
 use Rattle.compiled.proofs.search.tagged.Goals as goal

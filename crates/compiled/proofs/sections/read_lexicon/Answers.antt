@@ -2,7 +2,6 @@
 use Rattle.data.specs.Places.{Placed}
 use Rattle.compiled_spec.specs.Lexicon.{is_lexicon}
 use Rattle.compiled_spec.proofs.Lexicon.{lexicon_table}
-use borrow.Author.Tests.{not-true, not-false}
 use mathlib.Core.Bool.{true}
 use mathlib.Core.Path.{◌≡◌, sym, ◌∙◌}
 use Rattle.compiled.proofs.sections.read_lexicon.Goals as goal
