@@ -1,12 +1,9 @@
 -- `check_lexicon::all_rise` meets its contract: the words passed don't fall, so the words left decide. Assumes nothing.
 use Rattle.compiled_spec.specs.Lexicon.{rises}
-use Rattle.compiled_spec.proofs.Laws.Numbers.{below_turn, below_stop, below_end}
 use Rattle.texts.specs.Lists.{every, up_to}
-use borrow.Author.Tests.{not-true, not-false}
 use lib.ListN.{drop}
-use mathlib.Core.Path.{◌≡◌, refl, sym, ◌∙◌}
-use native.Mathlib.Omega.{arith}
-use Prim.Native.Nat.{◌+◌, ◌-◌, ◌≤◌}
+use mathlib.Core.Path.{◌≡◌}
+use Prim.Native.Nat.{◌-◌, ◌≤◌}
 use Rattle.check_lexicon.proofs.all_rise.Given as goal
 
 abbrev pub invariant-loop-i : goal.invariant-loop-i

@@ -1,12 +1,8 @@
 -- `check_lexicon::are_good` meets its contract: the entries passed are good, so the entries left decide. Assumes nothing.
 use Rattle.compiled_spec.specs.Lexicon.{is_good}
 use Rattle.compiled_spec.proofs.Laws.Numbers.{below_turn, below_stop, below_end}
-use Rattle.texts.specs.Lists.{every, up_to}
-use borrow.Author.Tests.{not-true, not-false}
-use lib.ListN.{drop}
-use mathlib.Core.Path.{◌≡◌, refl, sym, ◌∙◌}
+use mathlib.Core.Path.{sym, ◌∙◌}
 use native.Mathlib.Omega.{arith}
-use Prim.Native.Nat.{◌-◌}
 use Rattle.check_lexicon.proofs.are_good.Goals as goal
 
 pub returns-then-not-is_good : goal.returns-then-not-is_good

@@ -2,7 +2,6 @@
 use Rattle.compiled_spec.specs.Lexicon.{is_checked}
 use Rattle.compiled_spec.proofs.Lexicon.{lexicon_table}
 use Rattle.check_lexicon.specs.CheckLexicon.{check_lexicon}
-use borrow.Author.Tests.{not-true, not-false}
 use mathlib.Core.Path.{sym, ◌∙◌}
 use Rattle.check_lexicon.proofs.check_lexicon.Goals as goal
 

@@ -1,6 +1,5 @@
 -- `check_lexicon::is_good` meets its contract: damage decides first, then the numbers. Assumes nothing.
 use Rattle.compiled_spec.specs.Lexicon.{is_good}
-use borrow.Author.Tests.{not-true, not-false}
 use mathlib.Core.Path.{sym, ◌∙◌}
 use Rattle.check_lexicon.proofs.is_good.Goals as goal
 
