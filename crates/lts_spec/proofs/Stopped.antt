@@ -44,7 +44,7 @@ pub hash_at_lem : (word : List ℕ) (n : ℕ) → n < length word → is 35 (get
 hash_at_lem word n h = let e : n + 4 ≡ 4 + n = omega arith in rw (e, padded_at word n h) (hash_folded (get_or word n 0))
 
 module _ (phones index model : List ℕ) where
-  up_to_from : (word : List ℕ) (n : ℕ) → n ≤ length word → up_to phones index model (padded word) n ≡ letters_from (behind_last (is 35) (take n word)) (padded word) n
+  up_to_from : (word : List ℕ) (n : ℕ) → n ≤ length word → up_to phones index model (padded word) n ≡ letters_from phones index model (behind_last (is 35) (take n word)) (padded word) n
   unfolding up_to letters_from
   up_to_from word zero h = refl
   up_to_from word (suc n) h =
@@ -54,8 +54,8 @@ module _ (phones index model : List ℕ) where
       (λ e. rw (hash_at_lem word n h, e, behind_stop (is 35) word 0 n h e, lt-leb (suc n) n (omega arith)))
       (λ e. rw (hash_at_lem word n h, e, behind_turn (is 35) word 0 n h e, le-leb (behind_last (is 35) (take n word)) n w, ih))
 
-  pub letters_from_lem : (word : List ℕ) → letters phones index model word ≡ letters_from (stopped word) (padded word) (length word)
+  pub letters_from_lem : (word : List ℕ) → letters phones index model word ≡ letters_from phones index model (stopped word) (padded word) (length word)
   unfolding letters stopped
   letters_from_lem word =
       up_to_from word (length word) (omega arith)
-      ∙ ap (λ (s : List ℕ). letters_from (behind_last (is 35) s) (padded word) (length word)) (take-length word)
+      ∙ ap (λ (s : List ℕ). letters_from phones index model (behind_last (is 35) s) (padded word) (length word)) (take-length word)
