@@ -1,4 +1,7 @@
 // The 42 addenda (01, Lookup): words that the compiled entries would get wrong.
+
+#![tactic(auto)]
+
 ghost use Rattle.std.specs.Prelude.{◌≡◌, false, ◌++◌, map, ◌*◌, ◌≤◌, ◌<◌, length, get_or, drop};
 ghost use Rattle.texts.specs.Lists.{place};
 ghost use Rattle.cells.specs.Cells.{text, cells_of};

@@ -1,4 +1,7 @@
 // Read settings (02, S-12): what a store's settings are to a reader of a version, and the rack's stretch.
+
+#![tactic(auto)]
+
 ghost use Rattle.std.specs.Prelude.{◌≡◌};
 ghost use Rattle.answers.specs.Told.{told_shown};
 ghost use Rattle.read_settings.specs.ReadSettings.{shown_if, read_settings};

@@ -53,7 +53,7 @@ fn given(settings: &[u8], table: &[u16], name: &[u8]) -> usize
     while 0 < left {
         let i = table[at] as usize;
         if i == 0 {
-            return settings::record_of_lem(settings, name);
+            return settings::record_of(settings, name);
         }
         if texts::same(name, settings::name(settings, i)) {
             return i;

@@ -9,7 +9,7 @@ use values::{Known, Setting};
 fn value_of(settings: &[u8], wanted: &[u8], missing: Setting) -> Setting
     ensures { result ≡ value_of settings.now wanted.now missing }
 {
-    let i = chain::record_of_lem(settings, wanted);
+    let i = chain::record_of(settings, wanted);
     if i == 0 {
         return missing;
     }

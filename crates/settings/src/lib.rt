@@ -1,4 +1,7 @@
 // A settings store (02, S-12): its chain of records, the record of a name, and the values of the known settings.
+
+#![tactic(auto)]
+
 mod chain;
 mod known;
 

@@ -1,4 +1,7 @@
 // What is wrong with a settings store for a reader (02, S-12): 2, 15 and 16.
+
+#![tactic(auto)]
+
 ghost use Rattle.std.specs.Prelude.{◌≡◌};
 ghost use Rattle.answers.specs.Told.{told_done, refused};
 ghost use Rattle.settings_spec.specs.Settings.{is_length, is_version, walks as walks_of, is_sound, store_refusal};

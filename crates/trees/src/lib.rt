@@ -1,4 +1,7 @@
 // The letter trees' nodes and the walk from a letter's start to a leaf (01, Letter trees).
+
+#![tactic(auto)]
+
 ghost use Rattle.std.specs.Prelude.{◌≡◌, ◌/◌, ◌%◌, length};
 ghost use Rattle.trees.specs.Walk.{walk as walk_from};
 

@@ -1,4 +1,7 @@
 // Write setting (02, S-12): the value of one setting of a store.
+
+#![tactic(auto)]
+
 ghost use Rattle.std.specs.Prelude.{◌≡◌, true};
 ghost use Rattle.answers.specs.Told.{told_done, written};
 ghost use Rattle.records.specs.Fields.{put32};
@@ -20,7 +23,7 @@ fn put(settings: &mut [u8], version: u32, name: &[u8], value: Setting) -> Done
     if !values::is_known(known) {
         return Done::Refused(Refusal::Records);
     }
-    let i = settings::record_of_lem(settings, name);
+    let i = settings::record_of(settings, name);
     if i == 0 {
         return Done::Refused(Refusal::Records);
     }
