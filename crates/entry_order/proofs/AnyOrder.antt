@@ -17,7 +17,7 @@ use Rattle.lookup.specs.Lookup.{lookup, looked_up}
 use Rattle.pipeline_spec.specs.Pronounced.{Sections, pronounced}
 use Rattle.say_word.specs.SayWord.{say_word, sheet_after}
 use Rattle.entry_order.specs.Calls.{Given, answer, after, after_all, AllAccepted, those, is_call_of, calls_of}
-use Rattle.entry_order.specs.Laws.OfWord.{is_of, those_map, stored_of, find_of_lem, adding_all_of}
+use Rattle.entry_order.proofs.Laws.OfWord.{is_of, those_map, stored_of, find_of_lem, adding_all_of}
 
 -- the entry that a call makes
 abbrev pub made : Given → Entry

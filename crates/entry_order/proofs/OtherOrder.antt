@@ -14,8 +14,8 @@ use Rattle.answers.specs.declared.Answer.{Answer}
 use Rattle.add_entry.specs.Accepted.{Taken}
 use Rattle.add_entry.proofs.Accepted.{taken_accepted}
 use Rattle.entry_order.specs.Calls.{Given, answer, after, AllAccepted}
-use Rattle.entry_order.specs.AnyOrder.{made, took, entered}
-use Rattle.entry_order.specs.Laws.Room.{has_room, free_slot, Behind, behind}
+use Rattle.entry_order.proofs.AnyOrder.{made, took, entered}
+use Rattle.entry_order.proofs.Laws.Room.{has_room, free_slot, Behind, behind}
 
 -- a call that passes its tests is accepted
 told : (g : Given) (store : List ℕ) → Taken g.table store g.word g.tag g.phones g.exact → (answer g store).refusal ≡ 0

@@ -10,7 +10,7 @@ use Rattle.lookup.specs.Lookup.{lookup, looked_up}
 use Rattle.pipeline_spec.specs.Pronounced.{Sections}
 use Rattle.say_word.specs.SayWord.{say_word, sheet_after}
 use Rattle.entry_order.specs.Calls.{Given, after, after_all, AllAccepted, those, calls_of}
-use Rattle.entry_order.specs.AnyOrder.{any_order, any_order_said}
+use Rattle.entry_order.proofs.AnyOrder.{any_order, any_order_said}
 
 -- the premise: the folded words differ, and neither order refuses a call
 module _ (one two : Given) (store : List ℕ)
