@@ -1,7 +1,7 @@
 -- 01, Store and sheet, and 02, S-6 and S-9: the words of a sheet, their syllables and phones: what they say, which items they are, and how these are
 -- linked. `S` gives each item.
 -- Assumes nothing.
-use Rattle.std.specs.Prelude.{ℕ, ◌+◌, ◌≤◌, ◌≡◌, true, List, [], ◌∷◌, ◌++◌, map, eqb, length}
+use Rattle.std.specs.Prelude.{ℕ, ◌≤◌, ◌≡◌, true, List, [], ◌∷◌, ◌++◌, map, eqb, length}
 use Rattle.texts.specs.Choice.{if◌then◌else◌}
 use Rattle.records.specs.Chain.{All, Linked, chain, end_of}
 use Rattle.versions.specs.Versions.{is_stress}
