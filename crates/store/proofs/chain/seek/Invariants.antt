@@ -1,10 +1,8 @@
 -- `store::seek` meets its contract: none of the entries passed is wanted, so the search goes on behind p. Assumes nothing.
 use Prim.Native.Nat.{◌<◌}
-use native.Mathlib.Omega.{arith}
-use mathlib.Core.Path.{◌≡◌, refl, sym, ◌∙◌}
-use Rattle.store_spec.proofs.Laws.Turns.{seek_turn, seek_hit, seek_stop, seek_end}
+use mathlib.Core.Path.{◌≡◌}
 use Rattle.store_spec.specs.Adding.{seek}
-use Rattle.store_spec.specs.Store.{entry_at, is_wanted}
+use Rattle.store_spec.specs.Store.{is_wanted}
 use Rattle.store.proofs.chain.seek.Given as goal
 
 abbrev pub invariant-loop-left : goal.invariant-loop-left

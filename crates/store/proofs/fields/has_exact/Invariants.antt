@@ -1,13 +1,7 @@
 -- `store::has_exact` meets its contract: no slot passed is exact, so those below decide. Assumes nothing.
 use Rattle.store_spec.specs.Laws.Exact.{has_exact}
-use Rattle.store_spec.proofs.Laws.Exact.{exact_at, exact_hit, exact_turn, exact_end}
-use Rattle.store_spec.specs.Store.{entry_at}
-use borrow.Author.Tests.{eq-eqb, ne_eqb}
-use lib.Dec.{eqb}
-use mathlib.Core.Bool.{true, false}
-use mathlib.Core.Path.{◌≡◌, refl, sym, ap, ◌∙◌}
-use native.Mathlib.Omega.{arith}
-use Prim.Native.Nat.{ℕ, ◌≤◌}
+use mathlib.Core.Path.{◌≡◌}
+use Prim.Native.Nat.{◌≤◌}
 use Rattle.store.proofs.fields.has_exact.Given as goal
 
 abbrev pub invariant-loop-k : goal.invariant-loop-k
