@@ -1,12 +1,10 @@
 -- `settings::named` meets its contract: the first of the records left is the first of all. Assumes nothing.
-use Prim.Native.Nat.{◌<◌}
 use native.Mathlib.Omega.{arith}
 use mathlib.Core.Bool.{true, false}
 use mathlib.Core.Path.{◌≡◌, refl, sym, ap, ◌∙◌}
 use Rattle.texts.specs.Text.{same}
-use Rattle.records.specs.Chain.{chain}
 use Rattle.settings_spec.proofs.Laws.Turns.{named_turn, named_hit, named_stop, named_end}
-use Rattle.settings_spec.specs.Settings.{named, name_at, next}
+use Rattle.settings_spec.specs.Settings.{name_at}
 use Rattle.settings.proofs.chain.named.Goals as goal
 
 pub loop-left-init : goal.loop-left-init

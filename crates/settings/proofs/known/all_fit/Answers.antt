@@ -1,7 +1,7 @@
 -- `settings::all_fit` meets its contract: the tests of the definition, one by one. Assumes nothing.
 use mathlib.Core.Bool.{true, false}
 use mathlib.Core.Path.{◌≡◌, sym, ap, ◌∙◌}
-use borrow.Author.Tests.{eq-eqb, ne_eqb, not-true, not-false}
+use borrow.Author.Tests.{eq-eqb, ne_eqb}
 use Rattle.values.specs.declared.Known.TheVariants.{Pitch, Stretch, Level}
 use Rattle.values.specs.Values.{fits}
 use Rattle.settings_spec.specs.Settings.{all_fit, pitch_of, stretch_of}
@@ -12,31 +12,31 @@ unfolding all_fit
 returns-then-not-fits c =
     let pitch = c.pitch in
     let b = c.args.settings.now in
-    let p : fits Pitch (pitch_of b) ≡ false = sym (c.fits2.ensures ∙ ap (fits Pitch) pitch.ensures) ∙ c.if-not-fits.true in
+    let p : fits Pitch (pitch_of b) ≡ false = sym (c.fits.ensures ∙ ap (fits Pitch) pitch.ensures) ∙ c.if-not-fits.true in
     rw p
 
 pub returns-then-not-fits-2 : goal.returns-then-not-fits-2
 unfolding all_fit
 returns-then-not-fits-2 c =
     let pitch = c.pitch in
-    let fits2 = c.fits-2 in
+    let fits2 = c.fits in
     let if1 = c.if-not-fits in
     let stretch = c.stretch in
     let b = c.args.settings.now in
-    let p : fits Pitch (pitch_of b) ≡ true = sym (fits2.ensures ∙ ap (fits Pitch) pitch.ensures) ∙ not-false fits2.result if1.false in
-    let s : fits Stretch (stretch_of b) ≡ false = sym (c.fits3.ensures ∙ ap (fits Stretch) stretch.ensures) ∙ c.if-not-fits-2.true in
+    let p : fits Pitch (pitch_of b) ≡ true = sym (fits2.ensures ∙ ap (fits Pitch) pitch.ensures) ∙ if1.false in
+    let s : fits Stretch (stretch_of b) ≡ false = sym (c.fits-2.ensures ∙ ap (fits Stretch) stretch.ensures) ∙ c.if-not-fits-2.true in
     rw (p, s)
 
 pub returns-then-version-ne2 : goal.returns-then-version-ne2
 unfolding all_fit
 returns-then-version-ne2 c =
     let pitch = c.pitch in
-    let fits2 = c.fits-2 in
+    let fits2 = c.fits in
     let if1 = c.if-not-fits in
     let stretch = c.stretch in
-    let fits3 = c.fits3 in
+    let fits3 = c.fits-2 in
     let b = c.args.settings.now in
-    let p : fits Pitch (pitch_of b) ≡ true = sym (fits2.ensures ∙ ap (fits Pitch) pitch.ensures) ∙ not-false fits2.result if1.false in
+    let p : fits Pitch (pitch_of b) ≡ true = sym (fits2.ensures ∙ ap (fits Pitch) pitch.ensures) ∙ if1.false in
     let s : fits Stretch (stretch_of b) ≡ true = sym (fits3.ensures ∙ ap (fits Stretch) stretch.ensures) ∙ c.if-not-fits-2.false in
     rw (p, s, ne_eqb c.args.version 2 c.if-version-ne2.true)
 
@@ -44,13 +44,13 @@ pub returns : goal.returns
 unfolding all_fit
 returns c =
     let pitch = c.pitch in
-    let fits2 = c.fits-2 in
+    let fits2 = c.fits in
     let if1 = c.if-not-fits in
     let stretch = c.stretch in
-    let fits3 = c.fits-3 in
+    let fits3 = c.fits-2 in
     let if2 = c.if-not-fits-2 in
     let if3 = c.if-version-ne2 in
     let b = c.args.settings.now in
-    let p : fits Pitch (pitch_of b) ≡ true = sym (fits2.ensures ∙ ap (fits Pitch) pitch.ensures) ∙ not-false fits2.result if1.false in
-    let s : fits Stretch (stretch_of b) ≡ true = sym (fits3.ensures ∙ ap (fits Stretch) stretch.ensures) ∙ not-false fits3.result if2.false in
-    rw (p, s, eq-eqb c.args.version 2 if3.false) (c.fits4.ensures ∙ ap (fits Level) c.level.ensures)
+    let p : fits Pitch (pitch_of b) ≡ true = sym (fits2.ensures ∙ ap (fits Pitch) pitch.ensures) ∙ if1.false in
+    let s : fits Stretch (stretch_of b) ≡ true = sym (fits3.ensures ∙ ap (fits Stretch) stretch.ensures) ∙ if2.false in
+    rw (p, s, eq-eqb c.args.version 2 if3.false) (c.fits-3.ensures ∙ ap (fits Level) c.level.ensures)

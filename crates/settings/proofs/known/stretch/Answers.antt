@@ -5,4 +5,4 @@ use Rattle.settings.proofs.known.stretch.Goals as goal
 
 pub returns : goal.returns
 unfolding stretch_of of_bits
-returns c = c.value_of_lem.ensures
+returns c = c.value_of.ensures

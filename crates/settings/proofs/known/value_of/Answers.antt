@@ -2,13 +2,7 @@
 use mathlib.Core.Path.{sym, ◌∙◌}
 use borrow.Author.Tests.{eq-eqb, ne_eqb}
 use Rattle.settings_spec.specs.Settings.{value_of, record_of}
-use borrow.Author.Rules.{rules}
 use Rattle.settings.proofs.known.value_of.Goals as goal
-
-pub record_of-i-requires : goal.record_of-i-requires
-record_of-i-requires c = 
-
-record-of-requires c κs = search rules
 
 pub returns-then-i-eq0 : goal.returns-then-i-eq0
 unfolding value_of
