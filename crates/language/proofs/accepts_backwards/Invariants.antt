@@ -1,12 +1,9 @@
 -- `language::accepts_backwards` meets its contract: the letters passed were no vowels, so the letters left decide. Assumes nothing.
-use Prim.Native.Nat.{ℕ, ◌+◌, ◌-◌, ◌≤◌}
-use mathlib.Core.Bool.{Bool}
-use native.Mathlib.Omega.{arith}
-use mathlib.Core.Path.{◌≡◌, refl, sym, ap, ◌∙◌}
+use Prim.Native.Nat.{◌≤◌}
+use mathlib.Core.Path.{◌≡◌}
 use lib.ListN.{length, take}
-use lib.Seq.{take-length}
 use mathlib.Core.List.{reverse}
-use Rattle.language.specs.Machine.{cells, accepts, on_moved, accepts_backwards, accepts_none}
+use Rattle.language.specs.Machine.{cells, accepts}
 use Rattle.language.proofs.accepts_backwards.Given as goal
 
 abbrev pub invariant-loop-left : goal.invariant-loop-left

@@ -1,9 +1,9 @@
 -- `language::accepts_forwards` meets its contract: the letters passed were no vowels, so the letters left decide. Assumes nothing.
-use Prim.Native.Nat.{ℕ, ◌+◌, ◌-◌, ◌≤◌}
+use Prim.Native.Nat.{ℕ, ◌+◌}
 use mathlib.Core.Bool.{Bool}
 use native.Mathlib.Omega.{arith}
-use mathlib.Core.Path.{◌≡◌, refl, sym, ap, ◌∙◌}
-use lib.ListN.{length, drop}
+use mathlib.Core.Path.{refl, sym, ap, ◌∙◌}
+use lib.ListN.{drop}
 use Rattle.language.specs.Machine.{cells, accepts, on_moved, accepts_forwards, accepts_end}
 use Rattle.language.proofs.accepts_forwards.Goals as goal
 

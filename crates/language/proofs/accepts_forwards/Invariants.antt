@@ -1,10 +1,8 @@
 -- `language::accepts_forwards` meets its contract: the letters passed were no vowels, so the letters left decide. Assumes nothing.
-use Prim.Native.Nat.{ℕ, ◌+◌, ◌-◌, ◌≤◌}
-use mathlib.Core.Bool.{Bool}
-use native.Mathlib.Omega.{arith}
-use mathlib.Core.Path.{◌≡◌, refl, sym, ap, ◌∙◌}
+use Prim.Native.Nat.{◌-◌, ◌≤◌}
+use mathlib.Core.Path.{◌≡◌}
 use lib.ListN.{length, drop}
-use Rattle.language.specs.Machine.{cells, accepts, on_moved, accepts_forwards, accepts_end}
+use Rattle.language.specs.Machine.{cells, accepts}
 use Rattle.language.proofs.accepts_forwards.Given as goal
 
 abbrev pub invariant-loop-i : goal.invariant-loop-i

@@ -1,7 +1,5 @@
 -- `language::both_accept` meets its contract: no start, the first machine, the second. Assumes nothing.
-use Prim.Native.Nat.{ℕ}
-use mathlib.Core.Path.{◌≡◌, sym, ◌∙◌}
-use borrow.Author.Tests.{not-true, not-false}
+use mathlib.Core.Path.{sym, ◌∙◌}
 use Rattle.language.proofs.both_accept.Goals as goal
 
 pub returns-in_default : goal.returns-in_default

@@ -1,7 +1,7 @@
 -- `language::is_sayable` meets its contract: each return is decided by the first refusal that applies. Assumes nothing.
-use mathlib.Core.Path.{◌≡◌, sym, ◌∙◌}
+use mathlib.Core.Path.{sym, ◌∙◌}
 use lib.ListN.{length}
-use borrow.Author.Tests.{not-true, not-false, leb-true}
+use borrow.Author.Tests.{leb-true}
 use Rattle.language.specs.Call.{is_sayable}
 use Rattle.language.proofs.is_sayable.Goals as goal
 

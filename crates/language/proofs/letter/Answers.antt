@@ -1,8 +1,8 @@
 -- `language::letter` meets its contract: a step that fails, a vowel, or a state. Assumes nothing.
 use Rattle.language.specs.Machine.{symbol}
-use mathlib.Core.Path.{◌≡◌, sym, ap, ◌∙◌}
+use mathlib.Core.Path.{ap, ◌∙◌}
 use borrow.Author.Tests.{eq-eqb, ne_eqb}
-use Rattle.language.specs.Machine.{moved, on_step}
+use Rattle.language.specs.Machine.{moved}
 use Rattle.language.proofs.letter.Goals as goal
 
 pub returns-in_default : goal.returns-in_default

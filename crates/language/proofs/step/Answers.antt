@@ -1,11 +1,11 @@
 -- `language::step` meets its contract: no cell passed has the symbol, so the cells left decide; a cell's place gives both its bytes. Assumes nothing.
 use Prim.Native.Nat.{ℕ}
 use Rattle.language.specs.declared.Stepped.TheVariants.{To}
-use Prim.Native.Nat.{◌+◌, ◌-◌, ◌*◌, ◌/◌, ◌%◌, ◌≤◌, ◌<◌}
+use Prim.Native.Nat.{◌/◌, ◌%◌, ◌≤◌, ◌<◌}
 use native.Mathlib.Omega.{arith}
-use mathlib.Core.Path.{◌≡◌, refl, sym, ap, ◌∙◌}
-use lib.ListN.{length, drop}
-use Rattle.language.specs.Machine.{cells, step, scan, length_cells, scan_zero, scan_found, scan_turn, scan_end}
+use mathlib.Core.Path.{refl, sym, ap, ◌∙◌}
+use lib.ListN.{length}
+use Rattle.language.specs.Machine.{cells, step, length_cells, scan_zero, scan_found, scan_turn, scan_end}
 use Rattle.language.proofs.step.Goals as goal
 
 pub loop-i-init : goal.loop-i-init

@@ -1,6 +1,6 @@
 -- `language::symbol` meets its contract: each arm's bytes are those of one of the definition's lists. Assumes nothing.
 use mathlib.Core.Logic.{◌⊎◌, inl, inr, ⊎_elim}
-use mathlib.Core.Path.{◌≡◌, sym}
+use mathlib.Core.Path.{◌≡◌}
 use Prim.Native.Nat.{ℕ}
 use Rattle.language.specs.Machine.{symbol, symbol_other}
 use native.Mathlib.Omega.{arith}
