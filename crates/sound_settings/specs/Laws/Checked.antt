@@ -2,7 +2,7 @@
 -- Assumes nothing.
 use Rattle.std.specs.Prelude.{ℕ, ◌≡◌, refl, true, false, not, ◌&&◌, List, eqb, length}
 use Rattle.std.proofs.Common.{arith, sym, ap, ◌∙◌}
-use Rattle.texts.specs.Choice.{if◌then◌else◌, cases}
+use Rattle.texts.specs.Choice.{when◌then◌else◌, cases}
 use Rattle.records.specs.Fields.{u16_at}
 use Rattle.answers.specs.declared.Answer.{Answer}
 use Rattle.answers.specs.declared.Refusal.{Refusal}
