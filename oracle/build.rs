@@ -10,7 +10,7 @@ fn main() {
     let here = PathBuf::from(env::var("CARGO_MANIFEST_DIR").expect("cargo names the package"));
     let out = PathBuf::from(env::var("OUT_DIR").expect("cargo names a build folder"));
     let sources = folder(&here, "FLITE_RS_SRC", "../../shared/docs/src").join("src");
-    let library = folder(&here, "PRONOUNCER_LIB", "../target/staticlib");
+    let library = folder(&here, "PRONOUNCER_LIB", "../crates/pronouncer/out");
     let probes = here.join("src/original/probes");
 
     let mut modules = String::new();

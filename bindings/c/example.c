@@ -1,6 +1,6 @@
 /* Previews a name and accepts it, says it and a word of which only a letter is read, and prints the
  * phones; then sets a rack's pitch, and prints its settings. At the top of the repository:
- *   cc -std=c99 -Ibindings/c bindings/c/example.c target/staticlib/libpronouncer.a -o target/example
+ *   cc -std=c99 -Ibindings/c bindings/c/example.c crates/pronouncer/out/libpronouncer.a -o built/example
  */
 #include "pronouncer.h"
 

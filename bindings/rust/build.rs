@@ -1,4 +1,4 @@
-//! Finds libpronouncer.a: in the folder that PRONOUNCER_LIB names, else where `rt staticlib` leaves it. A relative path
+//! Finds libpronouncer.a: in the folder that PRONOUNCER_LIB names, else where `bindings/library` leaves it. A relative path
 //! is seen from the top of the repository.
 
 use std::env;
@@ -6,7 +6,7 @@ use std::path::PathBuf;
 
 fn main() {
     let here = PathBuf::from(env::var_os("CARGO_MANIFEST_DIR").expect("cargo names the package"));
-    let told = env::var_os("PRONOUNCER_LIB").unwrap_or("target/staticlib".into());
+    let told = env::var_os("PRONOUNCER_LIB").unwrap_or("crates/pronouncer/out".into());
     let folder = here.join("../..").join(told);
     let library = folder.join("libpronouncer.a");
 
@@ -17,7 +17,7 @@ fn main() {
         println!("cargo::rustc-env=PRONOUNCER_FOUND={}", library.display());
     } else {
         println!(
-            "cargo::error=there is no {}: run `rt staticlib pronouncer` at the top of the repository, \
+            "cargo::error=there is no {}: run `bindings/library` at the top of the repository, \
              or set PRONOUNCER_LIB to the folder that holds libpronouncer.a",
             library.display()
         );

@@ -1,7 +1,7 @@
 -- 01, Lookup: Adding, and 02, S-2 and S-8. The lines of a text in turn, up to the first fault, the entries that they add, and the spare behind them.
 -- Assumes nothing.
 use Rattle.std.specs.Prelude.{ℕ, ◌+◌, ◌-◌, List, [], ◌∷◌, ◌++◌, eqb}
-use Rattle.texts.specs.Choice.{if◌then◌else◌, bit}
+use Rattle.texts.specs.Choice.{when◌then◌else◌, bit}
 use Rattle.texts.specs.Lists.{some}
 use Rattle.lines.specs.Lines.{lines}
 use Rattle.slots_spec.specs.Slot.{Entry}
@@ -56,7 +56,7 @@ replacing (e ∷ more) es = bit (some (same_key e) es) + replacing more (adding 
 
 -- the spare behind the lines carries the count seen; where one stopped them, the largest (02, S-2)
 unfoldable pub spare_filled : Filled → List ℕ
-spare_filled f = if eqb f.answer.refusal 0 then f.store else with_count f.store largest
+spare_filled f = when eqb f.answer.refusal 0 then f.store else with_count f.store largest
 
 -- the store behind a text: all lines, and the count one higher, or as it was where one stopped them (02, S-2)
 abbrev pub store_filled : List ℕ → Filled → List ℕ
@@ -65,6 +65,6 @@ store_filled store f = written f.answer store (with_count f.store (count store +
 -- what is told of a text that came so far: how many lines were taken, how many slots are newly used, how many lines replaced an entry (02, S-2)
 unfoldable pub told_filled : List ℕ → List ℕ → Filled → Answer
 told_filled store text f =
-    if eqb f.answer.refusal 0
+    when eqb f.answer.refusal 0
     then accepted_with 0 f.answer.value (used f.store - used store) (replacing (line_entries (lines text)) (entries store))
     else f.answer

@@ -1,7 +1,7 @@
 -- 01, Lookup: Adding. What a line of a text of entries says, and the first of the refusals 3, 4, 5, 7 and 8 that applies to it.
 -- Assumes nothing.
 use Rattle.std.specs.Prelude.{ℕ, ◌+◌, false, not, ◌&&◌, List, [], ◌∷◌, map, leb, ltb, length, take, drop}
-use Rattle.texts.specs.Choice.{if◌then◌else◌}
+use Rattle.texts.specs.Choice.{when◌then◌else◌}
 use Rattle.texts.specs.Lists.{every, place}
 use Rattle.texts.specs.Text.{folded, is}
 use Rattle.lines.specs.Lines.{content, is_empty, fields, stripped}
@@ -27,8 +27,8 @@ on_fields (word ∷ tag ∷ more) phones = entry (stripped word) tag phones
 -- cut at "#", skipped if blank, split at the first colon
 unfoldable pub on_content : List ℕ → Line
 on_content c =
-    if is_empty c then skipped
-    else if leb (length c) (place (is 58) c) then faulty
+    when is_empty c then skipped
+    else when leb (length c) (place (is 58) c) then faulty
     else on_fields (fields (take (place (is 58) c) c)) (fields (drop (place (is 58) c + 1) c))
 
 unfoldable pub read_line : List ℕ → Line
@@ -41,10 +41,10 @@ line_entry word tag phones = record { tag = added_tag tag; word = map folded wor
 -- what comes of an entry line in a store: the first refusal that applies, in rank order, or it is taken; every byte of the text is below 128 by then
 unfoldable pub judged : List ℕ → List ℕ → List ℕ → List ℕ → List (List ℕ) → Outcome
 judged table store word tag phones =
-    if not (leb (length word) 47 && leb (length tag) 47) then Refused Text
-    else if not (every (may_add table) phones) then Refused UnknownPhone
-    else if ltb 24 (length phones) then Refused Phones
-    else if is_full store (line_entry word tag phones) then Refused Full
+    when not (leb (length word) 47 && leb (length tag) 47) then Refused Text
+    else when not (every (may_add table) phones) then Refused UnknownPhone
+    else when ltb 24 (length phones) then Refused Phones
+    else when is_full store (line_entry word tag phones) then Refused Full
     else Taken
 
 -- what comes of a line

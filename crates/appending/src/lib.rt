@@ -1,5 +1,8 @@
 // A word put last on a sheet (01, Store and sheet). It comes as its text, its source, its bare phones in cells, and a cut for each
 // phone: the stress of the syllable that ends there, 0 where none ends.
+
+#![tactic(auto)]
+
 ghost use Rattle.std.specs.Prelude.{◌≡◌, cond, ◌+◌, ◌-◌, ◌/◌, ◌≤◌, ◌<◌, eqb, length, get_or, take, drop};
 ghost use Rattle.texts.specs.Lists.{from};
 ghost use Rattle.records.specs.Records.{put_record};

@@ -8,7 +8,7 @@ use Rattle.std.proofs.Math.Path.{sym, ap}
 use mathlib.Core.List.{List, [], ◌∷◌, ◌++◌}
 use Rattle.std.proofs.Math.Option.{Option, none, some}
 use borrow.Author.Tests.{eqb-true, eqb-false}
-use Rattle.texts.specs.Choice.{if◌then◌else◌, cases}
+use Rattle.texts.specs.Choice.{when◌then◌else◌, cases}
 use Rattle.slots_spec.specs.Slot.{Entry}
 use Rattle.store_spec.specs.Store.{entries, count, with_count, largest, is_store_length}
 use Rattle.new_store.specs.NewStore.{new_store, new_bytes as new_store_bytes}
@@ -61,7 +61,7 @@ below n b e = let h = eqb-false n largest e in (h, omega (arith, b, h))
 module _ (c : Sections) (s : State) (k : Book) (a : Agrees s k) where
   -- what a call must leave
   abbrev After : Call → Option (List ℕ) → Type 0
-  After call other = Agrees (step c call other s) (if is_refused c call other s then k else accepts c call k)
+  After call other = Agrees (step c call other s) (when is_refused c call other s then k else accepts c call k)
 
   makes : (version : ℕ) (other : Option (List ℕ)) → After (make_sheet version) other
   unfolding answer step accepts
@@ -232,7 +232,7 @@ in_turn : (c : Sections) (ms : List Made) (s : State) (k : Book) → Agrees s k 
 unfolding leaves keeps hears
 in_turn c [] s k a = a
 in_turn c (m ∷ ms) s k a =
-    in_turn c ms (step c m.call m.other s) (if is_refused c m.call m.other s then k else accepts c m.call k)
+    in_turn c ms (step c m.call m.other s) (when is_refused c m.call m.other s then k else accepts c m.call k)
     (each_call c s k a m.call m.other)
 
 begins : (store sheet : List ℕ) (version : ℕ) → is_store_length (length store) ≡ true → is_sheet_length (length sheet) ≡ true → is_sheet_version version ≡ true

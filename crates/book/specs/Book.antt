@@ -1,7 +1,7 @@
 -- 01, Store and sheet, and 02, S-2 and S-9: the plain book beside a list of calls, fed only the calls and whether each was refused.
 -- Assumes nothing.
 use Rattle.std.specs.Prelude.{ℕ, Bool, List, [], ◌∷◌, ◌++◌}
-use Rattle.texts.specs.Choice.{if◌then◌else◌}
+use Rattle.texts.specs.Choice.{when◌then◌else◌}
 use Rattle.slots_spec.specs.Slot.{Entry}
 use Rattle.store_spec.specs.Adding.{adding}
 use Rattle.lexicon_spec.specs.Adding.{new_entry}
@@ -56,7 +56,7 @@ module _ (c : Sections) where
   -- a refused call changes nothing
   unfoldable pub keeps : List Heard → Book → Book
   keeps [] k = k
-  keeps (h ∷ hs) k = keeps hs (if h.refused then k else accepts h.call k)
+  keeps (h ∷ hs) k = keeps hs (when h.refused then k else accepts h.call k)
 
   -- what the book hears of a list of calls
   unfoldable pub hears : List Made → State → List Heard

@@ -7,7 +7,7 @@ use crate::read::Reading;
 use answers::Answer;
 
 // Where the arguments of a call end in the room, in order; the first stands from `ends[0]` on.
-#[derive(Drop)]
+#[derive(Clone, Copy)]
 pub struct Given {
     pub ok: bool,
     pub ends: [usize; 12],

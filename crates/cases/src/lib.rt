@@ -1,5 +1,7 @@
 // Cases in a text file, each a call with its arguments and what it must give back: read, run and
 // compared, and told. docs/CASES.md tells the format.
+#![tactic(auto)]
+
 mod files;
 mod run;
 

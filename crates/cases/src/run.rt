@@ -2,7 +2,7 @@
 ghost use Rattle.std.specs.Prelude.{◌≡◌, ◌+◌, ◌≤◌, min, length};
 
 // What came of a line.
-#[derive(Drop)]
+#[derive(Clone, Copy)]
 pub enum Outcome {
     // a comment, an empty line or a register
     Nothing,

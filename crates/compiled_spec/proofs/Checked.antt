@@ -5,7 +5,7 @@ use native.Mathlib.Omega.{arith}
 use Rattle.std.proofs.Common.{sym, ◌∙◌}
 use Rattle.std.proofs.Math.Path.{ap}
 use borrow.Author.Tests.{lt-ltb, le-ltb, ltb-true, ltb-false, eqb-true, eqb-false, not-true}
-use Rattle.texts.specs.Choice.{if◌then◌else◌, cases, never, is_false, both_true}
+use Rattle.texts.specs.Choice.{when◌then◌else◌, cases, never, is_false, both_true}
 use Rattle.texts.specs.Lists.{every, place, up_to}
 use Rattle.texts.specs.Text.{smaller, same_true, eq_same}
 use Rattle.compiled_spec.specs.declared.Chosen.TheVariants.{Missing, Entry}
@@ -93,7 +93,7 @@ module _ (phones index dat : List ℕ) (checked : is_checked phones index dat �
     module _ (tag p : ℕ) (s : Split p) where
       -- along the run from entry p on, whose entries up to i have other tags
       run : (k i : ℕ) → i + k ≡ count index → p ≤ i → ((j : ℕ) → j < i → is_exact index dat word tag j ≡ false)
-          → tagged index dat word tag p k i ≡ (if ltb (place (is_exact index dat word tag) (up_to (count index))) (count index) then Entry (place (is_exact index dat word tag) (up_to (count index))) else Entry p)
+          → tagged index dat word tag p k i ≡ (when ltb (place (is_exact index dat word tag) (up_to (count index))) (count index) then Entry (place (is_exact index dat word tag) (up_to (count index))) else Entry p)
       run zero i end h fails =
           tagged_end index dat word tag p 0 i (omega arith)
           ∙ rw (none_below (is_exact index dat word tag) (count index) (λ j g. fails j (omega arith)), le-ltb (count index) (count index) (omega arith))

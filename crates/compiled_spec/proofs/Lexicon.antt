@@ -1,6 +1,6 @@
 -- Theorems about `specs/Lexicon.antt`: 01, Lookup: the form of the sections that hold compiled entries, and a checked lexicon: no entry is damaged, every number has a phone and no word is smaller than the one before it.
 -- Assumes nothing.
-use Rattle.std.specs.Prelude.{ℕ, ◌+◌, ◌-◌, ◌*◌, ◌≤◌, ◌≡◌, true, List, leb, length}
+use Rattle.std.specs.Prelude.{ℕ, ◌+◌, ◌*◌, ◌≤◌, ◌≡◌, true, List, leb, length}
 use Rattle.std.proofs.Common.{leb-true}
 use Rattle.texts.specs.Choice.{both_true}
 use Rattle.data.specs.Sections.{is_phone_table, is_lex_index}

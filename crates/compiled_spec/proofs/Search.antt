@@ -14,7 +14,7 @@ use Rattle.compiled_spec.specs.Search.{search, tagged}
 
 module _ (index dat word : List ℕ) where
   -- more turns than entries are left change nothing
-  fuel : (n m lo hi : ℕ) → hi - lo ≤ n → hi - lo ≤ m → search n lo hi ≡ search m lo hi
+  fuel : (n m lo hi : ℕ) → hi - lo ≤ n → hi - lo ≤ m → search index dat word n lo hi ≡ search index dat word m lo hi
   unfolding search
   fuel zero zero lo hi h g = refl
   fuel zero (suc m) lo hi h g = rw (le-ltb lo hi (omega arith))

@@ -1,7 +1,7 @@
 -- 01, Lookup: in a lexicon that check lexicon says yes to, a compiled answer is the first equal word with the exact tag, else the first equal word.
 -- Assumes nothing.
 use Rattle.std.specs.Prelude.{ℕ, Bool, ◌&&◌, List, eqb, ltb}
-use Rattle.texts.specs.Choice.{if◌then◌else◌}
+use Rattle.texts.specs.Choice.{when◌then◌else◌}
 use Rattle.texts.specs.Lists.{place, up_to}
 use Rattle.texts.specs.Text.{same}
 use Rattle.compiled_spec.specs.declared.Chosen.{Chosen}
@@ -26,4 +26,4 @@ module _ (index dat word : List ℕ) where
   first tag =
       let exact = place (is_exact tag) (up_to (count index)) in
       let equal = place is_equal (up_to (count index)) in
-      if ltb exact (count index) then Entry exact else if ltb equal (count index) then Entry equal else Missing
+      when ltb exact (count index) then Entry exact else when ltb equal (count index) then Entry equal else Missing

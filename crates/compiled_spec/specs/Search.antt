@@ -2,7 +2,7 @@
 -- Assumes nothing.
 use Prim.Native.Nat.{ℕ, zero, suc, ◌+◌, ◌-◌, ◌/◌}
 use Rattle.std.specs.Prelude.{not, List, eqb, ltb}
-use Rattle.texts.specs.Choice.{if◌then◌else◌}
+use Rattle.texts.specs.Choice.{when◌then◌else◌}
 use Rattle.texts.specs.Text.{same, smaller}
 use Rattle.compiled_spec.specs.declared.Chosen.{Chosen}
 use Rattle.compiled_spec.specs.declared.Chosen.TheVariants.{Damaged, Missing, Entry}
@@ -13,26 +13,26 @@ module _ (index dat word : List ℕ) where
   unfoldable pub search : ℕ → ℕ → ℕ → Chosen
   search zero lo hi = Entry lo
   search (suc n) lo hi =
-      if not (ltb lo hi) then Entry lo
-      else if not (is_whole (entry_at index dat ((lo + hi) / 2))) then Damaged
-      else if smaller (word_of (entry_at index dat ((lo + hi) / 2))) word then search n ((lo + hi) / 2 + 1) hi
+      when not (ltb lo hi) then Entry lo
+      else when not (is_whole (entry_at index dat ((lo + hi) / 2))) then Damaged
+      else when smaller (word_of (entry_at index dat ((lo + hi) / 2))) word then search n ((lo + hi) / 2 + 1) hi
       else search n lo ((lo + hi) / 2)
 
   -- of the n entries from i on, while words are equal, the first with the exact tag; failing that, lo
   unfoldable pub tagged : ℕ → ℕ → ℕ → ℕ → Chosen
   tagged tag lo zero i = Entry lo
   tagged tag lo (suc n) i =
-      if not (is_whole (entry_at index dat i)) then Damaged
-      else if not (same (word_of (entry_at index dat i)) word) then Entry lo
-      else if eqb (tag_of (entry_at index dat i)) tag then Entry i
+      when not (is_whole (entry_at index dat i)) then Damaged
+      else when not (same (word_of (entry_at index dat i)) word) then Entry lo
+      else when eqb (tag_of (entry_at index dat i)) tag then Entry i
       else tagged tag lo n (i + 1)
 
   -- the word's entry by its tag, where the search ended at lo; missing unless entry lo exists and equals the word
   unfoldable pub from_place : ℕ → ℕ → Chosen
   from_place tag lo =
-      if not (ltb lo (count index)) then Missing
-      else if not (is_whole (entry_at index dat lo)) then Damaged
-      else if not (same (word_of (entry_at index dat lo)) word) then Missing
+      when not (ltb lo (count index)) then Missing
+      else when not (is_whole (entry_at index dat lo)) then Damaged
+      else when not (same (word_of (entry_at index dat lo)) word) then Missing
       else tagged tag lo (count index - lo) lo
 
   abbrev pub on_place : ℕ → Chosen → Chosen

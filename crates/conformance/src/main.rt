@@ -1,4 +1,8 @@
 // Runs the rehearsed cases and the edges of each call, with the values that 01 and 02 give.
-fn main() {
-    cases::run_arguments();
+#![tactic(auto)]
+
+use std::io;
+
+fn main(rt: HostRuntime) -> io::Result<()> {
+    cases::run_arguments(&rt)
 }

@@ -1,4 +1,7 @@
 // The count of a store (02, S-2): how often entries were added to it.
+
+#![tactic(auto)]
+
 ghost use Rattle.std.specs.Prelude.{◌≡◌, ◌≢◌, ◌+◌, ◌≤◌, ◌<◌, length};
 ghost use Rattle.store_spec.specs.Store.{count as count_of, with_count, largest as largest_count};
 

@@ -1,4 +1,7 @@
 // The form of each section that a call takes (01, Sections), and the phones of a table.
+
+#![tactic(auto)]
+
 ghost use Rattle.std.specs.Prelude.{◌≡◌, true, ◌≤◌, ◌<◌, ◌^◌, length};
 ghost use Rattle.records.specs.Fields.{u32_at};
 ghost use Rattle.data.specs.Sections.{is_phone_table, is_listed, is_lex_index, is_lts_index, is_lts_model, is_aswd};

@@ -1,7 +1,7 @@
 -- add entry calls one after the other, each on the store that the one before left; and those of one folded word.
 -- Assumes nothing.
 use Rattle.std.specs.Prelude.{ℕ, ◌≡◌, Bool, List, [], ◌∷◌, map}
-use Rattle.texts.specs.Choice.{if◌then◌else◌}
+use Rattle.texts.specs.Choice.{when◌then◌else◌}
 use Rattle.texts.specs.Text.{folded, same}
 use Rattle.answers.specs.declared.Answer.{Answer}
 use Rattle.add_entry.specs.AddEntry.{add_entry, store_after}
@@ -35,7 +35,7 @@ AllAccepted (g ∷ gs) store = ((answer g store).refusal ≡ 0) × AllAccepted g
 -- the elements of a list at which a test passes
 unfoldable pub those : {A : Type 0} → (A → Bool) → List A → List A
 those f [] = []
-those f (x ∷ xs) = if f x then x ∷ those f xs else those f xs
+those f (x ∷ xs) = when f x then x ∷ those f xs else those f xs
 
 -- a call of a folded word, and those of a list in their order
 abbrev pub is_call_of : List ℕ → Given → Bool

@@ -1,6 +1,2 @@
--- To believe: Calls says what add entry calls in turn leave. EitherOrder proves that neither lookup nor say word tells in which order two entries of different folded words were added, AnyOrder the same of any number of entries, OtherOrder that two are accepted in both orders or in neither.
+-- To believe: Calls says what add entry calls in turn leave. What holds of any order of them stands in proofs/.
 pub mod Calls
-pub mod AnyOrder
-pub mod EitherOrder
-pub mod OtherOrder
-pub mod Laws

@@ -82,7 +82,7 @@ fn add_untagged(phones: &[u8], store: &mut [u8], k: usize) -> u32 {
 }
 
 // How many entries were added, and by which refusal that ended.
-#[derive(Drop)]
+#[derive(Clone, Copy)]
 struct Filled {
     count: usize,
     refusal: u32,

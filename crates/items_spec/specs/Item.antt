@@ -1,7 +1,7 @@
 -- 01, Store and sheet, and 02, S-6 and S-9: an item of the sheet, 64 bytes, and what an item of each kind may be.
 -- Assumes nothing.
 use Rattle.std.specs.Prelude.{ℕ, ◌+◌, ◌-◌, ◌%◌, ◌/◌, Bool, ◌&&◌, List, ◌∷◌, ◌++◌, eqb, leb, length, get_or, take, drop, replicate}
-use Rattle.texts.specs.Choice.{if◌then◌else◌}
+use Rattle.texts.specs.Choice.{when◌then◌else◌}
 use Rattle.texts.specs.Lists.{every}
 use Rattle.texts.specs.Text.{ascii, is, is_word}
 use Rattle.records.specs.Fields.{u16_at}
@@ -81,7 +81,7 @@ is_head_item i =
     eqb i.kind 0 && is_sheet_version i.stress && eqb i.next 0 && eqb i.mark 0 && eqb i.source 0 && eqb (length i.text) 0
 
 unfoldable pub fits : Item → Bool
-fits i = if eqb i.kind 1 then is_word_item i else if eqb i.kind 2 then is_syllable_item i else is_phone_item i
+fits i = when eqb i.kind 1 then is_word_item i else when eqb i.kind 2 then is_syllable_item i else is_phone_item i
 
 -- an item, and item 0, sound by itself
 unfoldable pub is_item : List ℕ → Bool

@@ -1,7 +1,7 @@
 -- 01, sayable as a call: its refusals 1 and 3, and its answer.
 -- Assumes nothing.
 use Rattle.std.specs.Prelude.{ℕ, Bool, false, not, ◌&&◌, ◌||◌, List, reverse}
-use Rattle.texts.specs.Choice.{if◌then◌else◌, bit}
+use Rattle.texts.specs.Choice.{when◌then◌else◌, bit}
 use Rattle.texts.specs.Text.{is_word}
 use Rattle.answers.specs.declared.Answer.{Answer}
 use Rattle.answers.specs.Told.{refused, accepted}
@@ -17,6 +17,6 @@ both_accept prefix suffix word Fails = false
 
 unfoldable pub is_sayable : List ℕ → List ℕ → List ℕ → Answer
 is_sayable prefix suffix word =
-    if not (is_aswd prefix) || not (is_aswd suffix) then refused 1 0
-    else if not (is_word word) then refused 3 0
+    when not (is_aswd prefix) || not (is_aswd suffix) then refused 1 0
+    else when not (is_word word) then refused 3 0
     else accepted (bit (both_accept prefix suffix word (step (cells prefix) 0 35))) 0

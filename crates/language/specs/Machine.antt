@@ -4,7 +4,7 @@ use Rattle.std.specs.Prelude.{ℕ, suc, ◌+◌, ◌-◌, ◌*◌, ◌%◌, ◌/
 use Rattle.std.proofs.Common.{add-one, arith, sym, ap, ◌∙◌, length-drop, drop_of_length-le, drop-cons, take-suc}
 use Rattle.std.proofs.lemmas.List.{reverse_append, length-map}
 use borrow.Author.Tests.{eq-eqb, ne_eqb}
-use Rattle.texts.specs.Choice.{if◌then◌else◌}
+use Rattle.texts.specs.Choice.{when◌then◌else◌}
 use Rattle.texts.specs.Lists.{some, get_d_map}
 use Rattle.texts.specs.Text.{bytes, folded, is}
 use Rattle.records.specs.Fields.{u16_at, u16_drop}
@@ -23,19 +23,19 @@ cells table = map cell_of (records 2 (drop 4 table))
 
 -- n and m become N; a, e, i, o, u and y become V
 unfoldable pub symbol : ℕ → ℕ
-symbol b = if some (is b) (bytes "nm") then 78 else if some (is b) (bytes "aeiouy") then 86 else b
+symbol b = when some (is b) (bytes "nm") then 78 else when some (is b) (bytes "aeiouy") then 86 else b
 
 -- the step on a symbol, by the cells from the state on: 0 or the end fails; cell mod 128 equal to the symbol gives cell div 128
 unfoldable pub scan : List ℕ → ℕ → Stepped
 scan [] s = Fails
-scan (c ∷ cs) s = if eqb c 0 then Fails else if eqb (c % 128) s then To (c / 128) else scan cs s
+scan (c ∷ cs) s = when eqb c 0 then Fails else when eqb (c % 128) s then To (c / 128) else scan cs s
 
 unfoldable pub step : List ℕ → ℕ → ℕ → Stepped
 step table state s = scan (drop state table) s
 
 -- what a step on a symbol comes to: a walk is accepted at the first V
 abbrev pub on_step : ℕ → Stepped → Moved
-on_step s (To next) = if eqb s 86 then Accepted else On next
+on_step s (To next) = when eqb s 86 then Accepted else On next
 on_step s Fails = Failed
 
 unfoldable pub moved : List ℕ → ℕ → ℕ → Moved

@@ -1,4 +1,7 @@
 // Sayable (01, Sayable): whether a word looks like one that can be said, by two machines over its letters.
+
+#![tactic(auto)]
+
 ghost use Rattle.std.specs.Prelude.{◌≡◌, reverse, ◌≤◌, length};
 ghost use Rattle.texts.specs.Text.{folded};
 ghost use Rattle.answers.specs.Told.{told_verdict};

@@ -1,7 +1,7 @@
 -- 01, Lookup: Adding, and 02, S-8. What may be added, and the entry that it makes.
 -- Assumes nothing.
 use Rattle.std.specs.Prelude.{ℕ, Bool, ◌&&◌, ◌||◌, List, map, get_or}
-use Rattle.texts.specs.Choice.{if◌then◌else◌}
+use Rattle.texts.specs.Choice.{when◌then◌else◌}
 use Rattle.texts.specs.Lists.{every}
 use Rattle.texts.specs.Text.{bytes, folded, same}
 use Rattle.records.specs.Records.{records}
@@ -13,7 +13,7 @@ use Rattle.store_spec.specs.Adding.{entry_for}
 
 -- the tag of an entry to be added: "nil" or an empty one becomes "0", any other its first byte
 unfoldable pub added_tag : List ℕ → ℕ
-added_tag tag = if same tag (bytes "nil") then 48 else get_or tag 0 48
+added_tag tag = when same tag (bytes "nil") then 48 else get_or tag 0 48
 
 -- a phone that may be added: one of lex.phones or of the 50 (refusal 5)
 unfoldable pub may_add : List ℕ → List ℕ → Bool
@@ -28,7 +28,7 @@ may_add_all table phones = every (may_add_cell table) (records 16 phones)
 
 -- a word as it is stored: that of an exact entry as it is, any other folded
 unfoldable pub stored_word : Bool → List ℕ → List ℕ
-stored_word exact word = if exact then word else map folded word
+stored_word exact word = when exact then word else map folded word
 
 -- the entry to be added
 unfoldable pub new_entry : List ℕ → List ℕ → List ℕ → Bool → Entry

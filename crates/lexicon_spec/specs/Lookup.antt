@@ -4,7 +4,7 @@
 use Rattle.std.specs.Prelude.{ℕ, ◌*◌, true, false, List, ◌++◌, map, ltb, get_or, drop}
 use Rattle.std.proofs.Math.Option.{Option, none, some, or_else}
 use Rattle.std.proofs.Math.ListN.{length}
-use Rattle.texts.specs.Choice.{if◌then◌else◌}
+use Rattle.texts.specs.Choice.{when◌then◌else◌}
 use Rattle.texts.specs.Lists.{first}
 use Rattle.texts.specs.Text.{folded}
 use Rattle.cells.specs.Cells.{cells_of}
@@ -45,7 +45,7 @@ on_row none rest = rest
 
 -- an entry that is chosen is damaged also if a number has no phone
 abbrev pub spoken : List ℕ → List ℕ → Finding
-spoken phones s = if is_spoken phones s then found Compiled (entry_phones phones s) else damaged
+spoken phones s = when is_spoken phones s then found Compiled (entry_phones phones s) else damaged
 
 abbrev pub on_chosen : List ℕ → List ℕ → List ℕ → Chosen → Finding
 on_chosen phones index dat Damaged = damaged
@@ -67,8 +67,8 @@ abbrev pub told_finding : Finding → List ℕ → Answer
 told_finding nothing out = accepted 0 0
 told_finding damaged out = refused 6 0
 told_finding (found s ps) out =
-    if ltb 96 (length ps) then refused 7 0
-    else if ltb (length out) (16 * length ps) then refused 9 0
+    when ltb 96 (length ps) then refused 7 0
+    else when ltb (length out) (16 * length ps) then refused 9 0
     else accepted (source_number s) (length ps)
 
 -- phones at the front of an output, which keeps its bytes past them

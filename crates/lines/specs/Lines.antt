@@ -2,7 +2,7 @@
 -- Assumes nothing.
 use Rattle.std.specs.Prelude.{ℕ, zero, suc, ◌+◌, ◌-◌, ◌≤◌, ◌<◌, ◌≡◌, refl, Bool, not, List, [], ◌∷◌, ◌++◌, eqb, leb, length, get_or, take, drop}
 use Rattle.std.proofs.Common.{arith, sym, ap, ◌∙◌, take-suc, ne_eqb}
-use Rattle.texts.specs.Choice.{if◌then◌else◌}
+use Rattle.texts.specs.Choice.{when◌then◌else◌}
 use Rattle.texts.specs.Lists.{place}
 use Rattle.texts.specs.Text.{blank, is}
 
@@ -47,7 +47,7 @@ is_empty s = leb (length s) (place ink s)
 -- the fields, of at most n
 unfoldable pub fields_of : ℕ → List ℕ → List (List ℕ)
 fields_of zero s = []
-fields_of (suc n) s = if is_empty s then [] else field s ∷ fields_of n (after_field s)
+fields_of (suc n) s = when is_empty s then [] else field s ∷ fields_of n (after_field s)
 
 unfoldable pub fields : List ℕ → List (List ℕ)
 fields s = fields_of (length s) s
@@ -58,7 +58,7 @@ unquoted b = not (eqb b 34)
 
 -- a word without the quote marks at its end
 unfoldable pub on_tail : ℕ → List ℕ → List ℕ
-on_tail x [] = if eqb x 34 then [] else x ∷ []
+on_tail x [] = when eqb x 34 then [] else x ∷ []
 on_tail x (y ∷ ys) = x ∷ y ∷ ys
 
 unfoldable pub open_end : List ℕ → List ℕ

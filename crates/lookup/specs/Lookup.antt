@@ -1,7 +1,7 @@
 -- 01, Lookup: lookup as a call: its refusals 1, 2, 3, 6, 7 and 9, its answer, and the output at exit.
 -- Assumes nothing.
 use Rattle.std.specs.Prelude.{ℕ, not, ◌&&◌, List}
-use Rattle.texts.specs.Choice.{if◌then◌else◌}
+use Rattle.texts.specs.Choice.{when◌then◌else◌}
 use Rattle.texts.specs.Text.{is_word}
 use Rattle.store_spec.specs.Store.{is_sound, entries}
 use Rattle.compiled_spec.specs.Lexicon.{is_lexicon}
@@ -16,9 +16,9 @@ module _ (phones index dat store word tag : List ℕ) where
 
   unfoldable pub lookup : List ℕ → Answer
   lookup out =
-      if not (is_lexicon phones index) then refused 1 0
-      else if not (is_sound store) then refused 2 0
-      else if not (is_word word && is_word tag) then refused 3 0
+      when not (is_lexicon phones index) then refused 1 0
+      else when not (is_sound store) then refused 2 0
+      else when not (is_word word && is_word tag) then refused 3 0
       else told_finding finding out
 
   -- the output at exit

@@ -10,7 +10,7 @@ use borrow.Author.Tests.{ltb-true, ltb-false}
 use mathlib.Core.List.{List, [], ◌∷◌, ◌++◌, map, append_assoc, append-nil}
 use mathlib.Core.Option.{Option, none, some}
 use lib.ListN.{length, get_or, drop, length-append, length-map}
-use Rattle.texts.specs.Choice.{if◌then◌else◌, cases}
+use Rattle.texts.specs.Choice.{when◌then◌else◌, cases}
 use Rattle.texts.specs.Lists.{place}
 use Rattle.texts.specs.Text.{bytes, folded, same, is}
 use Rattle.records.specs.Fields.{u16_at, u32_at}
@@ -65,14 +65,14 @@ module _ (phones index model : List ℕ) where
       walked (Phone p) e = short _ (spoken_short _) e
       walked damaged e = let z : ◌≡◌ {A = ℕ} 0 1 = cc in absurd (omega arith)
 
-      byte : (b : Bool) (w : Walked) → (if b then leaf phones index model w else some []) ≡ some ps → length ps ≤ 2
+      byte : (b : Bool) (w : Walked) → (when b then leaf phones index model w else some []) ≡ some ps → length ps ≤ 2
       byte true w e = walked w e
       byte false w e = short [] zero-le e
 
   -- the bytes left, by the last of them
   up_to_turn : (text : List ℕ) (left : ℕ) → 0 < left
       → up_to phones index model text left
-      ≡ (if is 35 (get_or text (left + 3) 0) then some [] else joined phones index model (up_to phones index model text (left - 1)) (letter phones index model text (left + 3)))
+      ≡ (when is 35 (get_or text (left + 3) 0) then some [] else joined phones index model (up_to phones index model text (left - 1)) (letter phones index model text (left + 3)))
   unfolding up_to
   up_to_turn text zero h = absurd (not-suc-le-zero h)
   up_to_turn text (suc n) h = let e : suc n - 1 ≡ n = omega arith in let f : suc n + 3 ≡ n + 4 = omega arith in rw (e, f)

@@ -1,4 +1,7 @@
 // Letter to sound (01, Letter trees): the phones of a word by the trees of its letters.
+
+#![tactic(auto)]
+
 ghost use Rattle.std.specs.Prelude.{◌≡◌, true, ◌+◌, ◌*◌, ◌≤◌, ◌<◌, length, take};
 ghost use Rattle.std.proofs.Math.Option.{some};
 ghost use Rattle.data.specs.Places.{Placed};

@@ -2,7 +2,7 @@
 -- Assumes nothing.
 use Rattle.std.specs.Prelude.{ℕ, ◌*◌, not, List, ◌++◌, ltb, length, drop}
 use Rattle.std.proofs.Math.Option.{Option, none, some}
-use Rattle.texts.specs.Choice.{if◌then◌else◌}
+use Rattle.texts.specs.Choice.{when◌then◌else◌}
 use Rattle.texts.specs.Text.{is_word}
 use Rattle.answers.specs.declared.Answer.{Answer}
 use Rattle.answers.specs.Told.{refused, accepted_with, written}
@@ -12,7 +12,7 @@ use Rattle.lts_spec.specs.Letters.{is_trees, letters, stopped}
 -- phones to be answered, and where the letters stopped; or damage
 abbrev pub told_phones : Option (List (List ℕ)) → ℕ → List ℕ → Answer
 told_phones none place out = refused 6 0
-told_phones (some ps) place out = if ltb (length out) (16 * length ps) then refused 9 0 else accepted_with 0 (length ps) place 0
+told_phones (some ps) place out = when ltb (length out) (16 * length ps) then refused 9 0 else accepted_with 0 (length ps) place 0
 
 -- phones at the front of an output, which keeps its bytes past them
 abbrev pub with_phones : Option (List (List ℕ)) → List ℕ → List ℕ
@@ -25,8 +25,8 @@ out_phones found place out = written (told_phones found place out) out (with_pho
 
 unfoldable pub predict : List ℕ → List ℕ → List ℕ → List ℕ → List ℕ → Answer
 predict phones index model word out =
-    if not (is_trees phones index model) then refused 1 0
-    else if not (is_word word) then refused 3 0
+    when not (is_trees phones index model) then refused 1 0
+    else when not (is_word word) then refused 3 0
     else told_phones (letters phones index model word) (stopped word) out
 
 -- the output at exit

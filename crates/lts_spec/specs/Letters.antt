@@ -2,7 +2,7 @@
 -- Assumes nothing.
 use Rattle.std.specs.Prelude.{ℕ, zero, suc, ◌+◌, ◌-◌, ◌*◌, ◌/◌, Bool, ◌&&◌, List, [], ◌∷◌, ◌++◌, map, leb, ltb, length, get_or, take, drop}
 use Rattle.std.proofs.Math.Option.{Option, none, some}
-use Rattle.texts.specs.Choice.{if◌then◌else◌}
+use Rattle.texts.specs.Choice.{when◌then◌else◌}
 use Rattle.texts.specs.Lists.{place, behind_last}
 use Rattle.texts.specs.Text.{bytes, folded, same, is}
 use Rattle.records.specs.Fields.{u16_at, u32_at}
@@ -23,8 +23,8 @@ window text k = take 4 (drop (k - 4) text) ++ take 4 (drop (k + 1) text)
 unfoldable pub spoken : List ℕ → List (List ℕ)
 spoken x =
     let dash = place (is 45) x in
-    if same x (bytes "epsilon") then []
-    else if ltb dash (length x) then take dash x ∷ drop (dash + 1) x ∷ []
+    when same x (bytes "epsilon") then []
+    else when ltb dash (length x) then take dash x ∷ drop (dash + 1) x ∷ []
     else x ∷ []
 
 -- phones, and phones behind them; none stands for damage
@@ -46,7 +46,7 @@ module _ (phones index model : List ℕ) where
   unfoldable pub letter : List ℕ → ℕ → Option (List (List ℕ))
   letter text k =
       let b = get_or text k 0 in
-      if leb 97 b && leb b 122
+      when leb 97 b && leb b 122
       then leaf (walk model (window text k) (u32_at phones 0) (length model / 6) (u16_at index (2 * (b - 97))))
       else some []
 
@@ -58,7 +58,7 @@ module _ (phones index model : List ℕ) where
   -- the phones of the first n bytes of a padded word, leftwards from the last of them until "#"
   unfoldable pub up_to : List ℕ → ℕ → Option (List (List ℕ))
   up_to text zero = some []
-  up_to text (suc n) = if is 35 (get_or text (n + 4) 0) then some [] else joined (up_to text n) (letter text (n + 4))
+  up_to text (suc n) = when is 35 (get_or text (n + 4) 0) then some [] else joined (up_to text n) (letter text (n + 4))
 
   -- the phones of a word
   unfoldable pub letters : List ℕ → Option (List (List ℕ))

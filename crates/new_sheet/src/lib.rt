@@ -1,4 +1,7 @@
 // new sheet (01, Store and sheet, and 02, S-9): item 0 of a sheet of a right length is cleared, and gets a known version.
+
+#![tactic(auto)]
+
 ghost use Rattle.std.specs.Prelude.{◌≡◌};
 ghost use Rattle.answers.specs.Told.{told_done};
 ghost use Rattle.new_sheet.specs.NewSheet.{new_sheet, new_bytes};

@@ -1,4 +1,7 @@
 // new store (01, Store and sheet): slot 0 of a store of a right length is cleared.
+
+#![tactic(auto)]
+
 ghost use Rattle.std.specs.Prelude.{◌≡◌};
 ghost use Rattle.answers.specs.Told.{told_done};
 ghost use Rattle.new_store.specs.NewStore.{new_store, new_bytes};

@@ -5,7 +5,7 @@ use Rattle.std.specs.Prelude.{ℕ, ◌-◌, ◌≤◌, ◌≡◌, refl, Bool, tr
 use Rattle.std.proofs.Common.{arith, sym, ◌∙◌, length-take-le}
 use Rattle.std.proofs.Math.ListN.{get_or-eq_default}
 use Rattle.std.proofs.Math.Seq.{take-length}
-use Rattle.texts.specs.Choice.{if◌then◌else◌, cases}
+use Rattle.texts.specs.Choice.{when◌then◌else◌, cases}
 use Rattle.texts.specs.Lists.{some}
 use Rattle.versions.specs.Versions.{digits, is_stress}
 use Rattle.versions.proofs.Laws.Stresses.{no_stress_lem}
@@ -19,11 +19,11 @@ is_stressed ds x = some (eqb (last_byte x)) ds
 
 -- the stress of a phone, 0 where it has none
 unfoldable pub stress : List ℕ → List ℕ → ℕ
-stress ds x = if is_stressed ds x then last_byte x else 0
+stress ds x = when is_stressed ds x then last_byte x else 0
 
 -- the bare phone
 unfoldable pub bare : List ℕ → List ℕ → List ℕ
-bare ds x = if is_stressed ds x then take (length x - 1) x else x
+bare ds x = when is_stressed ds x then take (length x - 1) x else x
 
 -- the bare phone is the front of the phone
 pub bare_front : (ds x : List ℕ) → bare ds x ≡ take (length (bare ds x)) x

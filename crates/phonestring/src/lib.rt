@@ -1,4 +1,7 @@
 // phone string (01, Store and sheet): the phones of a sheet as one string.
+
+#![tactic(auto)]
+
 ghost use Rattle.std.specs.Prelude.{◌≡◌, ◌++◌, ◌+◌, ◌≤◌, length, drop};
 ghost use Rattle.std.proofs.Math.Seq.{paste};
 ghost use Rattle.answers.specs.Told.{told_joined};

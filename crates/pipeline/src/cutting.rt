@@ -1,7 +1,7 @@
 // A pronounced word made ready for the sheet: its bare phones, and where its syllables end with what stress. What a stress
 // is, the sheet's version says (02, S-9).
 ghost use Rattle.std.specs.Prelude.{◌≡◌, false, map, ◌++◌, ◌*◌, ◌/◌, ◌≤◌, eqb, length, drop};
-ghost use Rattle.texts.specs.Choice.{if◌then◌else◌};
+ghost use Rattle.texts.specs.Choice.{when◌then◌else◌};
 ghost use Rattle.cells.specs.Cells.{phones_of, cells_of};
 ghost use Rattle.versions.specs.Versions.{digits};
 ghost use Rattle.phoneset.specs.Stress.{bare as bare_of};
@@ -39,14 +39,14 @@ fn stressed(version: u8, before: u8, phone: &[u8]) -> u8
 
 // The cut at a mark, for the stress there.
 fn cut_at(mark: u8, stress: u8) -> u8
-    ensures { result ≡ (if eqb mark 1 then stress else 0) }
+    ensures { result ≡ (when eqb mark 1 then stress else 0) }
 {
     if mark == 1 { stress } else { 0 }
 }
 
 // The stress that a phone after a mark finds before it: "0" in a new syllable.
 fn carried(mark: u8, stress: u8) -> u8
-    ensures { result ≡ (if eqb mark 1 then 48 else stress) }
+    ensures { result ≡ (when eqb mark 1 then 48 else stress) }
 {
     if mark == 1 { 48 } else { stress }
 }

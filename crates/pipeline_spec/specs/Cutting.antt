@@ -1,7 +1,7 @@
 -- A pronounced word in bytes: what was pronounced as an answer and as cells; and the bytes that tell where its syllables end, with their stress.
 -- Assumes nothing.
 use Rattle.std.specs.Prelude.{ℕ, ◌*◌, List, [], ◌∷◌, ◌++◌, eqb, length, drop}
-use Rattle.texts.specs.Choice.{if◌then◌else◌}
+use Rattle.texts.specs.Choice.{when◌then◌else◌}
 use Rattle.versions.specs.Versions.{digits}
 use Rattle.phoneset.specs.Stress.{is_stressed, stress}
 use Rattle.cells.specs.Cells.{cells_of}
@@ -21,10 +21,10 @@ cells_spoken (phones source place ps) room = cells_of ps ++ drop (16 * length ps
 
 -- the stress behind a phone in version v: its own, else the one before it
 unfoldable pub stressed : ℕ → ℕ → List ℕ → ℕ
-stressed v d p = if is_stressed (digits v) p then stress (digits v) p else d
+stressed v d p = when is_stressed (digits v) p then stress (digits v) p else d
 
 -- at each phone the stress of the syllable that a mark ends there, 0 where none ends; d is the last stress before
 unfoldable pub cuts_of : ℕ → ℕ → List ℕ → List (List ℕ) → List ℕ
 cuts_of v d [] ps = []
 cuts_of v d (m ∷ ms) [] = []
-cuts_of v d (m ∷ ms) (p ∷ ps) = if eqb m 1 then stressed v d p ∷ cuts_of v 48 ms ps else 0 ∷ cuts_of v (stressed v d p) ms ps
+cuts_of v d (m ∷ ms) (p ∷ ps) = when eqb m 1 then stressed v d p ∷ cuts_of v 48 ms ps else 0 ∷ cuts_of v (stressed v d p) ms ps

@@ -1,7 +1,7 @@
 -- 01, Store and sheet, and 02, S-9: what say word answers, and the sheet at exit, where only what the word comes to is left to decide: refusals 6, 7 and 9.
 -- Assumes nothing.
 use Rattle.std.specs.Prelude.{ℕ, ◌+◌, Bool, List, leb}
-use Rattle.texts.specs.Choice.{if◌then◌else◌}
+use Rattle.texts.specs.Choice.{when◌then◌else◌}
 use Rattle.utterance_spec.specs.Tree.{Word}
 use Rattle.utterance_spec.specs.Sheet.{used, items, version}
 use Rattle.utterance_spec.specs.Append.{size, appended}
@@ -15,7 +15,7 @@ is_crowded sheet w = leb (items sheet) (used sheet + size w)
 
 -- the answer to a word that was pronounced: where its letters stopped
 abbrev pub placed : List ℕ → ℕ → Word → Answer
-placed sheet place w = if is_crowded sheet w then refused 9 0 else accepted_with 0 0 place 0
+placed sheet place w = when is_crowded sheet w then refused 9 0 else accepted_with 0 0 place 0
 
 -- the sheet at exit: as it was where the word is refused
 abbrev pub sheet_placed : List ℕ → ℕ → Word → List ℕ

@@ -3,7 +3,7 @@
 -- Assumes nothing.
 use Rattle.std.specs.Prelude.{ℕ, false, List, [], ◌∷◌, map, ltb, length}
 use Rattle.std.proofs.Math.Option.{Option, none, some}
-use Rattle.texts.specs.Choice.{if◌then◌else◌}
+use Rattle.texts.specs.Choice.{when◌then◌else◌}
 use Rattle.versions.specs.Versions.{digits}
 use Rattle.phoneset.specs.Stress.{is_stressed, stress, bare}
 use Rattle.onsets.specs.Onsets.{onsets}
@@ -42,7 +42,7 @@ on_letters (some ps) place = phones 4 place ps
 abbrev pub on_finding : Finding → Option (List (List ℕ)) → ℕ → Spoken
 on_finding nothing from_letters place = on_letters from_letters place
 on_finding damaged from_letters place = barred 6
-on_finding (found s ps) from_letters place = if ltb 96 (length ps) then barred 7 else phones (source_number s) 0 ps
+on_finding (found s ps) from_letters place = when ltb 96 (length ps) then barred 7 else phones (source_number s) 0 ps
 
 unfoldable pub pronounced : Sections → List Entry → List ℕ → List ℕ → Spoken
 pronounced c es word tag =
@@ -51,7 +51,7 @@ pronounced c es word tag =
 -- the last stress of version v among phones, d if there is none
 unfoldable pub last_stress : ℕ → ℕ → List (List ℕ) → ℕ
 last_stress v d [] = d
-last_stress v d (p ∷ ps) = last_stress v (if is_stressed (digits v) p then stress (digits v) p else d) ps
+last_stress v d (p ∷ ps) = last_stress v (when is_stressed (digits v) p then stress (digits v) p else d) ps
 
 -- a syllable: its last stress, else "0", and its bare phones
 unfoldable pub sung : ℕ → List (List ℕ) → Syllable

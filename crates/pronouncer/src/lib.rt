@@ -1,4 +1,6 @@
 // The public calls as C functions. A slice is a pointer and a length; an answer is `struct Answer`, or for read settings `struct Settings`, by value.
+#![tactic(auto)]
+
 ghost use Rattle.std.specs.Prelude.{◌≡◌, length};
 ghost use Rattle.texts.specs.Choice.{bit};
 ghost use Rattle.answers.specs.Told.{accepted};

@@ -6,7 +6,7 @@ use Rattle.std.proofs.Math.Path.{◌≡◌, sym}
 use Rattle.std.proofs.Common.{◌∙◌}
 use Rattle.std.proofs.Math.ListN.{get_or}
 use borrow.Author.Tests.{leb-true, leb-false, ltb-true}
-use Rattle.texts.specs.Choice.{if◌then◌else◌, cases, both_true}
+use Rattle.texts.specs.Choice.{when◌then◌else◌, cases, both_true}
 use Rattle.records.specs.Fields.{u32_at}
 use Rattle.reader.specs.declared.Number.{Number}
 use Rattle.reader.specs.declared.Number.TheVariants as number
@@ -15,11 +15,11 @@ use Rattle.reader.specs.declared.Text.TheVariants as text
 
 -- a byte
 unfoldable pub byte_at : List ℕ → ℕ → Number
-byte_at s at = if ltb at (length s) then number.Is (get_or s at 0) (at + 1) else number.Broken
+byte_at s at = when ltb at (length s) then number.Is (get_or s at 0) (at + 1) else number.Broken
 
 -- a u32
 unfoldable pub number_at : List ℕ → ℕ → Number
-number_at s at = if leb (at + 4) (length s) then number.Is (u32_at s at) (at + 4) else number.Broken
+number_at s at = when leb (at + 4) (length s) then number.Is (u32_at s at) (at + 4) else number.Broken
 
 -- the string at a byte lies inside its section, and its length is at most 15
 unfoldable pub fits : List ℕ → ℕ → Bool
@@ -39,7 +39,7 @@ string_fits s at h =
 
 -- a string, of any bytes
 unfoldable pub string_at : List ℕ → ℕ → Text
-string_at s at = if fits s at then text.At (at + 1) (at + 1 + get_or s at 0) else text.Broken
+string_at s at = when fits s at then text.At (at + 1) (at + 1 + get_or s at 0) else text.Broken
 
 -- a u32 was taken
 pub record NumberTaken (s : List ℕ) (at n next : ℕ) : Type 0 where

@@ -1,5 +1,5 @@
 // `Reader` (01, Sections): a section and a position in it. What it takes is read by functions on a slice and a number;
-// those over the struct are thin, and proved by hand. No function outside this file has a reader.
+// those over the struct are thin. No function outside this file has a reader.
 
 #![tactic(auto)]
 

@@ -6,7 +6,7 @@ use native.Mathlib.Omega.{arith}
 use Rattle.std.specs.Prelude.{◌≡◌, ◌≢◌, List, [], ◌∷◌, ◌++◌, eqb, length}
 use Rattle.std.proofs.Math.Path.{refl}
 use borrow.Author.Tests.{eq-eqb, ne_eqb}
-use Rattle.texts.specs.Choice.{if◌then◌else◌}
+use Rattle.texts.specs.Choice.{when◌then◌else◌}
 
 -- at each element
 abbrev pub All : (ℕ → Type 0) → List ℕ → Type 0
@@ -26,7 +26,7 @@ Linked f p (x ∷ xs) = (f p ≡ x) × (x ≢ 0) × Linked f x xs
 -- the records behind p, at most n
 unfoldable pub chain : (ℕ → ℕ) → ℕ → ℕ → List ℕ
 chain f zero p = []
-chain f (suc n) p = if eqb (f p) 0 then [] else f p ∷ chain f n (f p)
+chain f (suc n) p = when eqb (f p) 0 then [] else f p ∷ chain f n (f p)
 
 -- the last record of those behind p, p itself if there is none
 unfoldable pub end_of : ℕ → List ℕ → ℕ

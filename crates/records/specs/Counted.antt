@@ -3,7 +3,7 @@
 use Rattle.std.specs.Prelude.{ℕ, zero, suc, ◌≤◌, ◌≡◌, ◌≢◌, true, false, ◌||◌, List, [], ◌∷◌, eqb, length}
 use Rattle.std.proofs.Common.{arith, eqb-true}
 use Rattle.std.proofs.lemmas.Bool.{eqb-false}
-use Rattle.texts.specs.Choice.{if◌then◌else◌, cases, never}
+use Rattle.texts.specs.Choice.{when◌then◌else◌, cases, never}
 use Rattle.texts.specs.Lists.{some}
 use Rattle.records.specs.Chain.{All, Distinct}
 
@@ -14,7 +14,7 @@ Within n x = (1 ≤ x) × (x ≤ n)
 -- a list without the first m
 unfoldable without : ℕ → List ℕ → List ℕ
 without m [] = []
-without m (x ∷ xs) = if eqb x m then xs else x ∷ without m xs
+without m (x ∷ xs) = when eqb x m then xs else x ∷ without m xs
 
 without_length : (m : ℕ) (xs : List ℕ) → length xs ≤ suc (length (without m xs))
 unfolding without

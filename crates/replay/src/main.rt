@@ -1,4 +1,8 @@
 // Replays the answers of the original Rust that were recorded; oracle/README.md says how.
-fn main() {
-    cases::run_arguments();
+#![tactic(auto)]
+
+use std::io;
+
+fn main(rt: HostRuntime) -> io::Result<()> {
+    cases::run_arguments(&rt)
 }

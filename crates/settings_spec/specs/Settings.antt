@@ -2,7 +2,7 @@
 -- Record 0: version 0-1, first 2-3. Others: next 0-1, name length 2, name 3-17, kind 18, value 19-22. No other byte is looked at.
 -- Assumes nothing.
 use Rattle.std.specs.Prelude.{ℕ, zero, suc, ◌+◌, ◌*◌, ◌/◌, Bool, not, ◌&&◌, ◌||◌, List, [], ◌∷◌, map, eqb, leb, ltb, length, get_or, take, drop, pos}
-use Rattle.texts.specs.Choice.{if◌then◌else◌}
+use Rattle.texts.specs.Choice.{when◌then◌else◌}
 use Rattle.texts.specs.Text.{bytes, same, distinct}
 use Rattle.records.specs.Fields.{u16_at, u32_at}
 use Rattle.records.specs.Chain.{chain}
@@ -21,7 +21,7 @@ count b = length b / 32
 
 -- behind record 0 stands the first, behind any other its next; zero ends the chain
 unfoldable pub next : List ℕ → ℕ → ℕ
-next b i = u16_at b (if eqb i 0 then 2 else 32 * i)
+next b i = u16_at b (when eqb i 0 then 2 else 32 * i)
 
 -- the fields of record i: its name, its kind, and where its value stands
 unfoldable pub name_at : List ℕ → ℕ → List ℕ
@@ -57,7 +57,7 @@ is_sound b = walks b (count b) 0 && distinct (map (name_at b) (order b))
 -- of some records the first of this name, 0 if there is none
 unfoldable pub named : List ℕ → List ℕ → List ℕ → ℕ
 named b name [] = 0
-named b name (i ∷ is) = if same name (name_at b i) then i else named b name is
+named b name (i ∷ is) = when same name (name_at b i) then i else named b name is
 
 -- the record of a setting
 unfoldable pub record_of : List ℕ → List ℕ → ℕ
@@ -65,7 +65,7 @@ record_of b name = named b name (order b)
 
 -- its value, and another where it has no record
 unfoldable pub value_of : List ℕ → List ℕ → Setting → Setting
-value_of b name missing = if eqb (record_of b name) 0 then missing else setting_of (kind_at b (record_of b name)) (u32_at b (value_at (record_of b name)))
+value_of b name missing = when eqb (record_of b name) 0 then missing else setting_of (kind_at b (record_of b name)) (u32_at b (value_at (record_of b name)))
 
 -- a missing setting is 100, 1.0 or 80
 unfoldable pub pitch_of : List ℕ → Setting
@@ -84,7 +84,7 @@ all_fit v b = fits Pitch (pitch_of b) && fits Stretch (stretch_of b) && (not (eq
 -- what is wrong with a store for a reader of version v, before its values: 2, 15 or 16, and 0 if nothing is
 unfoldable pub store_refusal : ℕ → List ℕ → ℕ
 store_refusal v b =
-    if not (is_length (length b)) then 2
-    else if not (is_version v && is_version (u16_at b 0)) then 15
-    else if not (is_sound b) then 16
+    when not (is_length (length b)) then 2
+    else when not (is_version v && is_version (u16_at b 0)) then 15
+    else when not (is_sound b) then 16
     else 0

@@ -9,7 +9,7 @@ use Rattle.std.proofs.Math.ListN.{length, drop, replicate, length-append, get_or
 use Rattle.std.proofs.lemmas.List.{length-replicate}
 use Rattle.std.proofs.Math.Seq.{drop_at, get_or_at, take-append-le, take-append_seam}
 use Rattle.std.proofs.lemmas.Bool.{lt-leb}
-use Rattle.texts.specs.Choice.{if◌then◌else◌, bit, both_true, cases}
+use Rattle.texts.specs.Choice.{when◌then◌else◌, bit, both_true, cases}
 use Rattle.texts.specs.Lists.{every, every_same, every_at}
 use Rattle.texts.specs.Text.{folded, low, ascii, is_word, same, same_refl, same_true, word_short, is_phone}
 use Rattle.records.specs.Fields.{u16_at, put16}
@@ -52,7 +52,7 @@ fold_small b =
     rw (e, lt-leb (b + 32) 90 (omega arith)) (twice (leb 65 (b + 32)) (b + 32)))
     (λ e. rw (e, e) (eq-eqb b b refl))
   where
-    twice : (t : Bool) (n : ℕ) → eqb (if t && false then n + 32 else n) n ≡ true
+    twice : (t : Bool) (n : ℕ) → eqb (when t && false then n + 32 else n) n ≡ true
     twice true n = eq-eqb n n refl
     twice false n = eq-eqb n n refl
 

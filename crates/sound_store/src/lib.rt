@@ -1,4 +1,7 @@
 // Whether a store is sound (01, Store and sheet).
+
+#![tactic(auto)]
+
 ghost use Rattle.std.specs.Prelude.{◌≡◌, false, ◌+◌, ◌*◌, ◌/◌, ◌≤◌, ◌<◌, length};
 ghost use Rattle.records.specs.Chain.{chain, end_of};
 ghost use Rattle.store_spec.specs.Store.{next as next_of, walks as walks_of, is_rest, is_sound};

@@ -1,5 +1,8 @@
 // The entry store (01, Store and sheet): slots of 512 bytes in lent bytes, chained from slot 0 on, whose
 // own fields are first, last and used; `counting` has its count.
+
+#![tactic(auto)]
+
 mod chain;
 mod fields;
 

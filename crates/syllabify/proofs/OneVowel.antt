@@ -7,13 +7,13 @@ use Rattle.std.proofs.Common.{arith, le_of_suc-le-suc, ap, ◌∙◌}
 use Rattle.std.proofs.Math.Path.{refl}
 use Rattle.std.proofs.Math.Dec.{leb-suc-zero}
 use borrow.Author.Tests.{le-leb, leb-false, eq-eqb}
-use Rattle.texts.specs.Choice.{if◌then◌else◌, bit, cases, never, is_false}
+use Rattle.texts.specs.Choice.{when◌then◌else◌, bit, cases, never, is_false}
 use Rattle.texts.specs.Lists.{every, some, place}
 use Rattle.phoneset.specs.Phones.{is_vowel}
 use Rattle.syllabify.specs.Syllables.{is_pau, cut, marks, syllables, on_first, vowels}
 use Rattle.syllabify.specs.OneVowel.{one_vowel, First, needed}
 
-same_branches : {A : Type 0} (b : Bool) (a : A) → (if b then a else a) ≡ a
+same_branches : {A : Type 0} (b : Bool) (a : A) → (when b then a else a) ≡ a
 same_branches true a = refl
 same_branches false a = refl
 

@@ -2,7 +2,7 @@
 -- Assumes nothing.
 use Rattle.std.specs.Prelude.{ℕ, ◌+◌, ◌≤◌, ◌<◌, ◌≡◌, refl, Bool, true, false, ◌||◌, List, [], ◌∷◌, ◌++◌, length, get_or, take, drop}
 use Rattle.std.proofs.Common.{add-one, not-suc-le-zero, sym, append_assoc, append-nil, drop_of_length-le, drop-cons, take-suc}
-use Rattle.texts.specs.Choice.{if◌then◌else◌, bit}
+use Rattle.texts.specs.Choice.{when◌then◌else◌, bit}
 use Rattle.texts.specs.Lists.{place}
 use Rattle.phoneset.specs.Phones.{is_vowel}
 use Rattle.syllabify.specs.Syllables.{joined, cut_at, cut, marks}
@@ -22,7 +22,7 @@ cut_end onsets seen (next ∷ more) h = absurd (not-suc-le-zero h)
 -- one turn of the loop that marks
 pub marks_turn : (onsets : List (List ℕ)) (seen : Bool) (ps : List (List ℕ)) (i : ℕ) → i < length ps
     → (s m : Bool) → s ≡ (seen || is_vowel (get_or ps i [])) → m ≡ cut onsets s (drop (i + 1) ps)
-    → marks onsets seen (drop i ps) ≡ bit m ∷ marks onsets (if m then false else s) (drop (i + 1) ps)
+    → marks onsets seen (drop i ps) ≡ bit m ∷ marks onsets (when m then false else s) (drop (i + 1) ps)
 unfolding marks
 marks_turn onsets seen ps i h s m es em = rw (em, es, drop-cons ps i [] h, add-one)
 

@@ -1,7 +1,7 @@
 -- 01, Syllables: the marks after the phones of a list, for any list of onsets.
 -- Assumes nothing.
 use Rattle.std.specs.Prelude.{ℕ, ◌+◌, ◌≤◌, ◌≡◌, Bool, true, false, not, ◌||◌, List, [], ◌∷◌, ◌++◌, leb, eqb, length, take}
-use Rattle.texts.specs.Choice.{if◌then◌else◌, bit}
+use Rattle.texts.specs.Choice.{when◌then◌else◌, bit}
 use Rattle.texts.specs.Lists.{place}
 use Rattle.texts.specs.Text.{bytes, same}
 use Rattle.phoneset.specs.Phones.{is_vowel}
@@ -18,18 +18,18 @@ joined (x ∷ xs) = x ++ joined xs
 -- whether a syllable that has its vowel ends before `rest`, whose first phone is `next` and whose first vowel stands at v
 abbrev pub opens : List (List ℕ) → List ℕ → List (List ℕ) → ℕ → Bool
 opens onsets next rest v =
-    if eqb v 0 then true
-    else if same next (bytes "ng") then false
-    else if eqb v 1 then true
-    else if leb v 3 then is_onset onsets (joined (take v rest))
+    when eqb v 0 then true
+    else when same next (bytes "ng") then false
+    else when eqb v 1 then true
+    else when leb v 3 then is_onset onsets (joined (take v rest))
     else false
 
 -- whether a syllable ends before `rest`; `seen` tells whether it has its vowel, and v is the count of `rest` where no vowel is left
 abbrev pub cut_at : List (List ℕ) → Bool → List ℕ → List (List ℕ) → ℕ → Bool
 cut_at onsets seen next rest v =
-    if is_pau next then true
-    else if leb (length rest) v then false
-    else if not seen then false
+    when is_pau next then true
+    else when leb (length rest) v then false
+    else when not seen then false
     else opens onsets next rest v
 
 -- 01's rules in their order: the first that fits decides
@@ -43,7 +43,7 @@ marks onsets seen [] = []
 marks onsets seen (x ∷ xs) =
     let s = seen || is_vowel x in
     let m = cut onsets s xs in
-    bit m ∷ marks onsets (if m then false else s) xs
+    bit m ∷ marks onsets (when m then false else s) xs
 
 -- a phone put in front of the first syllable
 abbrev pub on_first : List ℕ → List (List (List ℕ)) → List (List (List ℕ))
@@ -54,7 +54,7 @@ on_first x (g ∷ gs) = (x ∷ g) ∷ gs
 unfoldable pub syllables : List ℕ → List (List ℕ) → List (List (List ℕ))
 syllables [] xs = []
 syllables (m ∷ ms) [] = []
-syllables (m ∷ ms) (x ∷ xs) = if eqb m 1 then (x ∷ []) ∷ syllables ms xs else on_first x (syllables ms xs)
+syllables (m ∷ ms) (x ∷ xs) = when eqb m 1 then (x ∷ []) ∷ syllables ms xs else on_first x (syllables ms xs)
 
 -- how many phones are vowels
 unfoldable pub vowels : List (List ℕ) → ℕ

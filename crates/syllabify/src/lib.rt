@@ -3,7 +3,7 @@
 #![tactic(auto)]
 
 ghost use Rattle.std.specs.Prelude.{◌≡◌, false, ◌||◌, [], ◌++◌, ◌/◌, ◌<◌, ◌≤◌, length, get_or, take, drop};
-ghost use Rattle.texts.specs.Choice.{if◌then◌else◌, bit};
+ghost use Rattle.texts.specs.Choice.{when◌then◌else◌, bit};
 ghost use Rattle.texts.specs.Lists.{place};
 ghost use Rattle.cells.specs.Cells.{phones_of};
 ghost use Rattle.phoneset.specs.Phones.{is_vowel};
@@ -114,7 +114,7 @@ fn mark_of(cut: bool) -> u8
 
 // Whether the syllable after a place has a vowel already.
 fn goes_on(cut: bool, seen: bool) -> bool
-    ensures { result ≡ (if cut then false else seen) }
+    ensures { result ≡ (when cut then false else seen) }
 {
     if cut { false } else { seen }
 }

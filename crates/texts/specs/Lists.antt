@@ -7,7 +7,7 @@ use Rattle.std.specs.Prelude.{◌≡◌, refl, Bool, true, false, ◌&&◌, ◌|
 use Rattle.std.proofs.Math.Bool.{and_assoc}
 use mathlib.Core.List.{List, [], ◌∷◌, ◌++◌, map, reverse}
 use Rattle.std.proofs.Math.Option.{Option, none as nothing, some as just}
-use Rattle.texts.specs.Choice.{if◌then◌else◌, both_true, cases}
+use Rattle.texts.specs.Choice.{when◌then◌else◌, both_true, cases}
 
 module _ {A : Type 0} (f : A → Bool) where
   -- the test passes at each element
@@ -23,7 +23,7 @@ module _ {A : Type 0} (f : A → Bool) where
   -- the place of the first element at which the test passes, the length where there is none
   unfoldable pub place : List A → ℕ
   place [] = 0
-  place (x ∷ xs) = if f x then 0 else suc (place xs)
+  place (x ∷ xs) = when f x then 0 else suc (place xs)
 
   -- the place just after the last element at which the test passes, 0 where there is none
   unfoldable pub behind_last : List A → ℕ
@@ -82,7 +82,7 @@ module _ {A : Type 0} (f : A → Bool) where
 -- the first element at which the test passes
 unfoldable pub first : {A : Type 0} → (A → Bool) → List A → Option A
 first f [] = nothing
-first f (x ∷ xs) = if f x then just x else first f xs
+first f (x ∷ xs) = when f x then just x else first f xs
 
 -- it is the one at its place, if there is one
 pub first_none : {A : Type 0} (f : A → Bool) (l : List A) → length l ≤ place f l → first f l ≡ nothing

@@ -7,7 +7,7 @@ use Prim.Native.String.{String, [] as nil, ◌∷◌ as ◌c∷◌}
 use Rattle.std.proofs.Math.ListN.{drop_of_length-le}
 use Rattle.std.proofs.Math.Seq.{drop-cons, take-append_seam}
 use borrow.Author.Tests.{eqb-true, eq-eqb, ne_eqb, ltb-true, ltb-false, leb-true, le-leb}
-use Rattle.texts.specs.Choice.{if◌then◌else◌, cases, both_true, never, is_false}
+use Rattle.texts.specs.Choice.{when◌then◌else◌, cases, both_true, never, is_false}
 use Rattle.texts.specs.Lists.{every, every_at, some}
 
 -- the bytes of a quoted text
@@ -17,7 +17,7 @@ bytes (◌c∷◌ c s) = code c ∷ bytes s
 
 -- case folding touches A to Z only
 unfoldable pub folded : ℕ → ℕ
-folded b = if leb 65 b && leb b 90 then b + 32 else b
+folded b = when leb 65 b && leb b 90 then b + 32 else b
 
 -- blanks are 9 to 13 and 32
 unfoldable pub blank : ℕ → Bool
@@ -64,7 +64,7 @@ unfoldable pub smaller : List ℕ → List ℕ → Bool
 smaller [] [] = false
 smaller [] (y ∷ ys) = true
 smaller (x ∷ xs) [] = false
-smaller (x ∷ xs) (y ∷ ys) = if eqb x y then smaller xs ys else ltb x y
+smaller (x ∷ xs) (y ∷ ys) = when eqb x y then smaller xs ys else ltb x y
 
 pub same_refl : (xs : List ℕ) → same xs xs ≡ true
 unfolding same

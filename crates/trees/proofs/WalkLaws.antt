@@ -2,7 +2,7 @@
 -- Assumes nothing.
 use Rattle.std.specs.Prelude.{ℕ, zero, suc, ◌-◌, ◌≤◌, ◌<◌, ◌≡◌, refl, Bool, true, false, List, ltb}
 use Rattle.std.proofs.Common.{not-suc-le-zero, arith, ltb-true}
-use Rattle.texts.specs.Choice.{if◌then◌else◌}
+use Rattle.texts.specs.Choice.{when◌then◌else◌}
 use Rattle.trees.specs.declared.Node.{Node}
 use Rattle.trees.specs.declared.Node.TheVariants.{Leaf, Next, Outside}
 use Rattle.trees.specs.declared.Walked.TheVariants.{Phone, Damaged}
@@ -28,7 +28,7 @@ walk_leaf model features phones zero n p e = apart e
     apart e = let z : ◌≡◌ {A = ℕ} 0 1 = cc in absurd (omega arith)
 walk_leaf model features phones (suc left) n p e = let ih = walk_leaf model features phones left in at (node_at model features n) e (λ m. ih m p)
   where
-    leaf : (q : ℕ) (b : Bool) → ltb q phones ≡ b → (if b then Phone q else Damaged) ≡ Phone p → p < phones
+    leaf : (q : ℕ) (b : Bool) → ltb q phones ≡ b → (when b then Phone q else Damaged) ≡ Phone p → p < phones
     leaf q true h e = let z : q ≡ p = cc in omega (arith, ltb-true q phones h)
     leaf q false h e = let z : ◌≡◌ {A = ℕ} 0 1 = cc in absurd (omega arith)
 

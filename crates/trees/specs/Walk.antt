@@ -1,7 +1,7 @@
 -- 01, Letter trees: what a node says, and the walk from a letter's start to a leaf.
 -- Assumes nothing.
 use Rattle.std.specs.Prelude.{ℕ, zero, suc, ◌+◌, ◌*◌, List, eqb, leb, ltb, length, get_or}
-use Rattle.texts.specs.Choice.{if◌then◌else◌}
+use Rattle.texts.specs.Choice.{when◌then◌else◌}
 use Rattle.records.specs.Fields.{u16_at}
 use Rattle.trees.specs.declared.Node.{Node}
 use Rattle.trees.specs.declared.Node.TheVariants.{Leaf, Next, Outside}
@@ -14,14 +14,14 @@ node_at model features n =
     let at = 6 * n in
     let first = get_or model at 0 in
     let value = get_or model (at + 1) 0 in
-    if leb (length model) at then Outside
-    else if eqb first 255 then Leaf value
-    else if leb first 7 then (if eqb (get_or features first 0) value then Next (u16_at model (at + 2)) else Next (u16_at model (at + 4)))
+    when leb (length model) at then Outside
+    else when eqb first 255 then Leaf value
+    else when leb first 7 then (when eqb (get_or features first 0) value then Next (u16_at model (at + 2)) else Next (u16_at model (at + 4)))
     else Next (u16_at model (at + 4))
 
 -- a leaf ends the walk, if its number has a phone; a next node goes on; a node outside the model is damage
 abbrev pub on_node : ℕ → (ℕ → Walked) → Node → Walked
-on_node phones go (Leaf p) = if ltb p phones then Phone p else Damaged
+on_node phones go (Leaf p) = when ltb p phones then Phone p else Damaged
 on_node phones go (Next n) = go n
 on_node phones go Outside = Damaged
 

@@ -1,4 +1,7 @@
 // The sheet (01, Store and sheet): items of 64 bytes, words with their syllables and phones; their fields and links, and an item written whole.
+
+#![tactic(auto)]
+
 mod fields;
 pub mod inside;
 mod links;

@@ -2,7 +2,7 @@
 -- 0 where none ends.
 -- Assumes nothing.
 use Rattle.std.specs.Prelude.{ℕ, ◌-◌, ◌<◌, ◌≢◌, List, [], ◌∷◌, eqb, length, get_or}
-use Rattle.texts.specs.Choice.{if◌then◌else◌}
+use Rattle.texts.specs.Choice.{when◌then◌else◌}
 use Rattle.utterance_spec.specs.Tree.{Syllable, Word}
 
 -- a phone put in front of the first syllable
@@ -13,7 +13,7 @@ on_head p (y ∷ ys) = record { stress = y.stress; phones = p ∷ y.phones } ∷
 unfoldable pub grouped : List ℕ → List (List ℕ) → List Syllable
 grouped [] ps = []
 grouped (m ∷ ms) [] = []
-grouped (m ∷ ms) (p ∷ ps) = if eqb m 0 then on_head p (grouped ms ps) else record { stress = m; phones = p ∷ [] } ∷ grouped ms ps
+grouped (m ∷ ms) (p ∷ ps) = when eqb m 0 then on_head p (grouped ms ps) else record { stress = m; phones = p ∷ [] } ∷ grouped ms ps
 
 -- the word
 abbrev pub cut_word : List ℕ → ℕ → List ℕ → List (List ℕ) → Word

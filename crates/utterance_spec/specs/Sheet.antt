@@ -1,7 +1,7 @@
 -- 01, Store and sheet, and 02, S-9: the sheet, items of 64 bytes in lent bytes; when it is sound, and what it reads as.
 -- Assumes nothing.
 use Rattle.std.specs.Prelude.{ℕ, zero, suc, ◌+◌, ◌/◌, Bool, true, not, ◌&&◌, List, [], ◌∷◌, map, eqb, leb, ltb, length}
-use Rattle.texts.specs.Choice.{if◌then◌else◌}
+use Rattle.texts.specs.Choice.{when◌then◌else◌}
 use Rattle.texts.specs.Lists.{every}
 use Rattle.records.specs.Records.{record_at}
 use Rattle.records.specs.Chain.{chain}
@@ -41,34 +41,34 @@ page b = record { version = (at b 0).stress; state = (at b 0).mark; words = read
 module _ (S : ℕ → Item) where
   -- the item that comes behind the children of a word, a syllable or a phone
   unfoldable pub after_syllable : ℕ → ℕ
-  after_syllable y = if eqb (S y).next 0 then (S (S y).parent).next else (S y).next
+  after_syllable y = when eqb (S y).next 0 then (S (S y).parent).next else (S y).next
 
   unfoldable pub after_phone : ℕ → ℕ
-  after_phone x = if eqb (S x).next 0 then after_syllable (S x).parent else (S x).next
+  after_phone x = when eqb (S x).next 0 then after_syllable (S x).parent else (S x).next
 
   unfoldable pub beyond : ℕ → ℕ
-  beyond i = if eqb (S i).kind 3 then after_phone i else if eqb (S i).kind 2 then after_syllable i else (S i).next
+  beyond i = when eqb (S i).kind 3 then after_phone i else when eqb (S i).kind 2 then after_syllable i else (S i).next
 
   -- the next item in reading order: the first child, else what comes behind
   unfoldable pub after : ℕ → ℕ
-  after i = if eqb (S i).first 0 then beyond i else (S i).first
+  after i = when eqb (S i).first 0 then beyond i else (S i).first
 
   -- an item's child fields agree with its first child
   unfoldable pub is_parent : ℕ → Bool
-  is_parent i = if eqb (S i).first 0 then eqb (S i).last 0 else eqb (S (S i).first).parent i && eqb (S (S i).first).kind ((S i).kind + 1)
+  is_parent i = when eqb (S i).first 0 then eqb (S i).last 0 else eqb (S (S i).first).parent i && eqb (S (S i).first).kind ((S i).kind + 1)
 
   -- and with its next sibling, or with its parent where it is the last
   unfoldable pub is_sibling : ℕ → Bool
-  is_sibling i = if eqb (S i).next 0 then eqb (S (S i).parent).last i else eqb (S (S i).next).parent (S i).parent && eqb (S (S i).next).kind (S i).kind
+  is_sibling i = when eqb (S i).next 0 then eqb (S (S i).parent).last i else eqb (S (S i).next).parent (S i).parent && eqb (S (S i).next).kind (S i).kind
 
   -- a syllable has a stress of version v (02, S-9), and a phone
   unfoldable pub is_sung : ℕ → ℕ → Bool
-  is_sung v i = if eqb (S i).kind 2 then is_stress v (S i).stress && not (eqb (S i).first 0) else true
+  is_sung v i = when eqb (S i).kind 2 then is_stress v (S i).stress && not (eqb (S i).first 0) else true
 
   -- among items in reading order the phones, behind phone q, are chained both ways
   unfoldable pub is_chained : ℕ → List ℕ → Bool
   is_chained q [] = eqb (S q).follow 0 && eqb (S 0).prev q
-  is_chained q (x ∷ xs) = if eqb (S x).kind 3 then eqb (S q).follow x && eqb (S x).prev q && is_chained x xs else is_chained q xs
+  is_chained q (x ∷ xs) = when eqb (S x).kind 3 then eqb (S q).follow x && eqb (S x).prev q && is_chained x xs else is_chained q xs
 
 -- an item of the walk: numbered 1 to used, sound by itself, its links agree
 unfoldable pub is_placed : List ℕ → ℕ → Bool

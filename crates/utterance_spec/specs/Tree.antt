@@ -1,8 +1,8 @@
 -- 01, Store and sheet, and 02, S-6 and S-9: the words of a sheet, their syllables and phones: what they say, which items they are, and how these are
 -- linked. `S` gives each item.
 -- Assumes nothing.
-use Rattle.std.specs.Prelude.{ℕ, ◌+◌, ◌≤◌, ◌≡◌, true, List, [], ◌∷◌, ◌++◌, map, eqb, length}
-use Rattle.texts.specs.Choice.{if◌then◌else◌}
+use Rattle.std.specs.Prelude.{ℕ, ◌≤◌, ◌≡◌, true, List, [], ◌∷◌, ◌++◌, map, eqb, length}
+use Rattle.texts.specs.Choice.{when◌then◌else◌}
 use Rattle.records.specs.Chain.{All, Linked, chain, end_of}
 use Rattle.versions.specs.Versions.{is_stress}
 use Rattle.items_spec.specs.Item.{Item}
@@ -65,7 +65,7 @@ items_at (w ∷ ws) = w.at ∷ (items_in w.syllables ++ items_at ws)
 module _ (S : ℕ → Item) where
   -- the next sibling among the children of p; from p itself its first child
   unfoldable pub sibling : ℕ → ℕ → ℕ
-  sibling p i = if eqb i p then (S i).first else (S i).next
+  sibling p i = when eqb i p then (S i).first else (S i).next
 
   -- the phones before and behind an item; item 0 has the last and the first
   unfoldable pub prev : ℕ → ℕ

@@ -8,14 +8,14 @@ ghost use Rattle.std.specs.Float.Ieee.{of_bits, to_bits};
 ghost use Rattle.values.specs.Values.{whole_of, bits_of_whole, setting_of, bits_of, is_between, is_stretch, fits as fits_of, known_as, is_known, whole_in, real_in};
 
 // As the original's `Value` has it.
-#[derive(Drop)]
+#[derive(Clone, Copy)]
 pub enum Setting {
     Whole(i32),
     Real(f32),
 }
 
 // The settings that some version knows, and any other.
-#[derive(Drop)]
+#[derive(Clone, Copy)]
 pub enum Known {
     Pitch,
     Stretch,

@@ -6,7 +6,7 @@ use Rattle.std.proofs.Math.Path.{ap}
 use Rattle.std.specs.Float.{nan, binary32}
 use Rattle.std.specs.Float.Ieee.{of_bits}
 use Rattle.std.proofs.lemmas.Bool.{eqb-false}
-use Rattle.texts.specs.Choice.{if◌then◌else◌, cases, never, both_true}
+use Rattle.texts.specs.Choice.{when◌then◌else◌, cases, never, both_true}
 use Rattle.texts.specs.Text.{bytes, same, same_true}
 use Rattle.records.specs.Fields.{u32_at, put32}
 use Rattle.answers.specs.declared.Answer.{Answer}

@@ -3,7 +3,7 @@
 use Rattle.std.specs.Prelude.{ℕ, ◌<◌, ◌≡◌, refl, ◌≢◌, true, false, not, ◌&&◌, List, eqb}
 use Rattle.std.proofs.Common.{eqb-true}
 use Rattle.std.proofs.lemmas.Bool.{eqb-false, not-true}
-use Rattle.texts.specs.Choice.{if◌then◌else◌, cases, never, both_true}
+use Rattle.texts.specs.Choice.{when◌then◌else◌, cases, never, both_true}
 use Rattle.answers.specs.Told.{refused, accepted, written}
 use Rattle.answers.specs.declared.Answer.{Answer}
 use Rattle.values.specs.declared.Setting.{Setting}

@@ -47,7 +47,7 @@ fn number_in_c(kind: &str) -> Option<&'static str> {
 /// name.
 pub fn in_rattle(text: &str) -> Result<Vec<Function>, String> {
     let text = without_comments(text);
-    let heads = text.split("#[no_mangle]").skip(1);
+    let heads = text.split("#[unsafe(no_mangle)]").skip(1);
     heads
         .map(|head| {
             let (name, arguments, behind) = head_parts(head, "pub extern \"C\" fn ")?;

@@ -279,7 +279,7 @@ fn an_altered_source_is_told() {
         ("sheet: &mut [u8], version: u32", "version: u32, sheet: &mut [u8]"),
         (
             "// a sheet, a version\n",
-            "#[no_mangle]\npub extern \"C\" fn pronouncer_close(sheet: &mut [u8]) -> Answer {}\n",
+            "#[unsafe(no_mangle)]\npub extern \"C\" fn pronouncer_close(sheet: &mut [u8]) -> Answer {}\n",
         ),
     ];
     let plain = rattle();

@@ -9,7 +9,7 @@ use Prim.Native.Nat.{ℕ, ◌+◌, ◌≤◌}
 use lib.Dec.{eqb}
 use lib.ListN.{length}
 use borrow.Author.Tests.{not-true, not-false, eq-eqb, ne_eqb}
-use Rattle.texts.specs.Choice.{if◌then◌else◌}
+use Rattle.texts.specs.Choice.{when◌then◌else◌}
 use Rattle.answers.specs.declared.Answer.{Answer}
 use Rattle.answers.specs.Told.{refused, accepted, written}
 use Rattle.store_spec.specs.Store.{is_sound, count, with_count, largest}
@@ -20,7 +20,7 @@ use Rattle.accept_entries.proofs.accept_entries.Tie as tie
 
 -- the definition's chain of tests, over what they say: both stores are sound, the counts are equal, the store's is the largest
 abbrev chain : Bool → Bool → Bool → Answer
-chain sound equal last = if not sound then refused 2 0 else if not equal || last then refused 12 0 else accepted 0 0
+chain sound equal last = when not sound then refused 2 0 else when not equal || last then refused 12 0 else accepted 0 0
 
 stale : (sound equal last : Bool) (before after : List ℕ) → sound ≡ true → equal ≡ false → (refused 12 0 ≡ chain sound equal last) × (before ≡ written (chain sound equal last) before after)
 stale sound equal last before after s e = (rw (s, e), rw (s, e))

@@ -3,7 +3,7 @@
 use Rattle.std.specs.Prelude.{ℕ, ◌≡◌, refl, Bool, true, false, List, [], ◌∷◌, eqb, length, get_or}
 use Rattle.std.proofs.Common.{sym, ap, ◌∙◌, ne_eqb}
 use Rattle.std.proofs.lemmas.Bool.{eqb-false}
-use Rattle.texts.specs.Choice.{if◌then◌else◌, cases, both_true, never}
+use Rattle.texts.specs.Choice.{when◌then◌else◌, cases, both_true, never}
 use Rattle.texts.specs.Lists.{every, some, place}
 use Rattle.texts.specs.Text.{ne_same}
 use Rattle.addenda.specs.Addenda.{Addendum, addenda}
@@ -13,7 +13,7 @@ use Rattle.addenda.specs.Rules.{addenda_count}
 -- the first bytes of the words of a length
 unfoldable pub firsts_of : ℕ → List Addendum → List ℕ
 firsts_of n [] = []
-firsts_of n (r ∷ rs) = if eqb (length r.word) n then get_or r.word 0 0 ∷ firsts_of n rs else firsts_of n rs
+firsts_of n (r ∷ rs) = when eqb (length r.word) n then get_or r.word 0 0 ∷ firsts_of n rs else firsts_of n rs
 
 -- some row's word has this length and this first byte
 unfoldable pub is_start : ℕ → ℕ → Bool

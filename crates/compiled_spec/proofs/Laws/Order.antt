@@ -3,18 +3,18 @@
 use Rattle.std.specs.Prelude.{ℕ, ◌<◌, ◌≡◌, refl, Bool, true, false, List, [], ◌∷◌, eqb, ltb}
 use Rattle.std.proofs.Common.{arith, sym, ◌∙◌, eqb-true, eq-eqb, ne_eqb, lt-ltb, ltb-true, ltb-false}
 use Rattle.std.proofs.lemmas.Bool.{eqb-false}
-use Rattle.texts.specs.Choice.{if◌then◌else◌, cases, never, is_false}
+use Rattle.texts.specs.Choice.{when◌then◌else◌, cases, never, is_false}
 use Rattle.texts.specs.Text.{same, smaller, same_true}
 
 -- of two strings with first bytes x and y, the first is smaller: by its first byte, or by the rests, told by s
 module _ (x y : ℕ) (s : Bool) where
-  by_first : x < y → (if eqb x y then s else ltb x y) ≡ true
+  by_first : x < y → (when eqb x y then s else ltb x y) ≡ true
   by_first h = rw (ne_eqb x y (λ e. omega arith), lt-ltb x y h)
 
-  by_rests : x ≡ y → s ≡ true → (if eqb x y then s else ltb x y) ≡ true
+  by_rests : x ≡ y → s ≡ true → (when eqb x y then s else ltb x y) ≡ true
   by_rests e t = rw (eq-eqb x y e, t)
 
-  by_either : {C : Type 0} → (if eqb x y then s else ltb x y) ≡ true → (x < y → C) → (x ≡ y → s ≡ true → C) → C
+  by_either : {C : Type 0} → (when eqb x y then s else ltb x y) ≡ true → (x < y → C) → (x ≡ y → s ≡ true → C) → C
   by_either h first rests =
       cases (eqb x y) (λ t. rests (eqb-true x y t) (rw t at h)) (λ f. first (ltb-true x y (rw f at h)))
 

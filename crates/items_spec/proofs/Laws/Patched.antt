@@ -4,7 +4,7 @@ use Rattle.std.specs.Prelude.{ℕ, ◌+◌, ◌*◌, ◌%◌, ◌/◌, ◌≤◌
 use Rattle.std.proofs.Common.{arith, ◌∙◌, eqb-true}
 use Rattle.std.proofs.Math.Seq.{get_or-set_other, drop-set-lt}
 use Rattle.std.proofs.lemmas.Bool.{eqb-false}
-use Rattle.texts.specs.Choice.{if◌then◌else◌, cases}
+use Rattle.texts.specs.Choice.{when◌then◌else◌, cases}
 use Rattle.records.specs.Fields.{u16_at, put16, u16_put_same, u16_put_other}
 use Rattle.items_spec.specs.Item.{item_of, is_clean}
 
@@ -25,7 +25,7 @@ patch_clean r o v l h = rw (byte_kept r o v 16 (omega arith) (omega arith), rest
 
 -- number n of an item, counted in u16s from its front: 1 next to 6 follow
 module _ (r : List ℕ) (n v : ℕ) (long : length r ≡ 64) (from : 1 ≤ n) (to : n ≤ 6) (small : v < 65536) where
-  number : (m : ℕ) → u16_at (put16 r (2 * n) v) (2 * m) ≡ (if eqb m n then v else u16_at r (2 * m))
+  number : (m : ℕ) → u16_at (put16 r (2 * n) v) (2 * m) ≡ (when eqb m n then v else u16_at r (2 * m))
   number m =
       cases (eqb m n)
       (λ e. let s = eqb-true m n e in rw (e, s) (u16_put_same r (2 * n) v (omega arith) small))
@@ -36,12 +36,12 @@ module _ (r : List ℕ) (n v : ℕ) (long : length r ≡ 64) (from : 1 ≤ n) (t
       ≡ record {
         kind = (item_of r).kind;
         stress = (item_of r).stress;
-        next = if eqb 1 n then v else (item_of r).next;
-        first = if eqb 2 n then v else (item_of r).first;
-        last = if eqb 3 n then v else (item_of r).last;
-        parent = if eqb 4 n then v else (item_of r).parent;
-        prev = if eqb 5 n then v else (item_of r).prev;
-        follow = if eqb 6 n then v else (item_of r).follow;
+        next = when eqb 1 n then v else (item_of r).next;
+        first = when eqb 2 n then v else (item_of r).first;
+        last = when eqb 3 n then v else (item_of r).last;
+        parent = when eqb 4 n then v else (item_of r).parent;
+        prev = when eqb 5 n then v else (item_of r).prev;
+        follow = when eqb 6 n then v else (item_of r).follow;
         mark = (item_of r).mark;
         source = (item_of r).source;
         text = (item_of r).text;

@@ -3,7 +3,7 @@
 use Rattle.std.specs.Prelude.{ℕ, ◌+◌, ◌*◌, ◌<◌, ◌≡◌, refl, Bool, true, false, not, ◌&&◌, ◌||◌, List, [], ◌∷◌, map, eqb, ltb, length, get_or}
 use Rattle.std.proofs.Common.{arith, sym, ap, ◌∙◌, eqb-true, eq-eqb, ne_eqb, ltb-true}
 use Rattle.std.proofs.lemmas.Bool.{eqb-false, not-true}
-use Rattle.texts.specs.Choice.{if◌then◌else◌, cases, both_true, never}
+use Rattle.texts.specs.Choice.{when◌then◌else◌, cases, both_true, never}
 use Rattle.texts.specs.Lists.{every, some, place}
 use Rattle.texts.specs.Text.{bytes, same, same_true, same_refl, ne_same, distinct}
 use Rattle.phoneset.specs.Phones.{Phone, phones, no_phone, row_of, is_vowel}
@@ -20,7 +20,7 @@ is_plus r = eqb (get_or r.features 0 0) 43
 -- the names of such rows
 unfoldable pub plus : List Phone → List (List ℕ)
 plus [] = []
-plus (r ∷ rs) = if is_plus r then r.name ∷ plus rs else plus rs
+plus (r ∷ rs) = when is_plus r then r.name ∷ plus rs else plus rs
 
 unfoldable pub vowels : List (List ℕ)
 vowels = plus phones
@@ -62,7 +62,7 @@ vowel_listed x = listed x phones phones_differ
 -- those of a length
 unfoldable pub of_length : ℕ → List (List ℕ) → List (List ℕ)
 of_length n [] = []
-of_length n (v ∷ vs) = if eqb (length v) n then v ∷ of_length n vs else of_length n vs
+of_length n (v ∷ vs) = when eqb (length v) n then v ∷ of_length n vs else of_length n vs
 
 by_length : (x : List ℕ) (vs : List (List ℕ)) → some (same x) vs ≡ some (same x) (of_length (length x) vs)
 unfolding some of_length

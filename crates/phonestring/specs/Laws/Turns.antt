@@ -5,7 +5,7 @@ use Rattle.std.proofs.Common.{arith, sym, ◌∙◌, length-take, length-drop, l
 use Rattle.std.proofs.Math.Path.{ap}
 use mathlib.Core.List.{List, [], ◌∷◌, ◌++◌, map}
 use Rattle.std.proofs.Math.Seq.{paste, paste-zero, take-length, take-append_seam}
-use Rattle.texts.specs.Choice.{if◌then◌else◌, cases}
+use Rattle.texts.specs.Choice.{when◌then◌else◌, cases}
 use Rattle.records.specs.Records.{record_at, paste_more, paste_turn}
 use Rattle.records.specs.Chain.{chain, chain_turn, chain_stop, chain_end}
 use Rattle.items_spec.specs.Item.{item_of}
@@ -15,11 +15,11 @@ use Rattle.phonestring.specs.PhoneString.{phones, led, spaced, string}
 
 -- a blank, unless item p is item 0, behind which the first phone stands
 unfoldable pub gap : ℕ → List ℕ
-gap p = if eqb p 0 then [] else 32 ∷ []
+gap p = when eqb p 0 then [] else 32 ∷ []
 
 -- the string of the phones behind item p, at most n, with its gap
 unfoldable pub behind : ℕ → List (List ℕ) → List ℕ
-behind p ps = if eqb p 0 then spaced ps else led ps
+behind p ps = when eqb p 0 then spaced ps else led ps
 
 unfoldable pub rest : List ℕ → ℕ → ℕ → List ℕ
 rest b n p = behind p (map (text_at (at b)) (chain (follow (at b)) n p))

@@ -10,7 +10,7 @@ use mathlib.Core.List.{List, [], ◌∷◌, ◌++◌, map}
 use Rattle.std.proofs.Math.ListN.{length, length-map}
 use Rattle.std.proofs.Math.Seq.{drop-cons}
 use borrow.Author.Tests.{ne_eqb}
-use Rattle.texts.specs.Choice.{if◌then◌else◌, cases, never}
+use Rattle.texts.specs.Choice.{when◌then◌else◌, cases, never}
 use Rattle.phoneset.specs.Phones.{is_vowel}
 use Rattle.versions.specs.Versions.{digits, is_stress}
 use Rattle.versions.proofs.Laws.Stresses.{zero_stress, stress_never}
@@ -26,7 +26,7 @@ use Rattle.pipeline_spec.proofs.Laws.Fits.{digit}
 pub length_marks : (o : List (List ℕ)) (seen : Bool) (xs : List (List ℕ)) → length (marks o seen xs) ≡ length xs
 unfolding marks
 length_marks o seen [] = refl
-length_marks o seen (x ∷ xs) = ap suc (length_marks o (if cut o (seen || is_vowel x) xs then false else seen || is_vowel x) xs)
+length_marks o seen (x ∷ xs) = ap suc (length_marks o (when cut o (seen || is_vowel x) xs then false else seen || is_vowel x) xs)
 
 -- one cut in front of others
 same_last : (x c : ℕ) (cuts : List ℕ) → get_or (x ∷ c ∷ cuts) (suc (suc (length cuts)) - 1) 0 ≡ get_or (c ∷ cuts) (suc (length cuts) - 1) 0
@@ -55,7 +55,7 @@ module _ (v : ℕ) where
   -- one turn of the loop that cuts
   pub cuts_turn : (d : ℕ) (ms : List ℕ) (ps : List (List ℕ)) (i : ℕ) → i < length ms → i < length ps
       → (s : ℕ) → s ≡ stressed v d (get_or ps i [])
-      → cuts_of v d (drop i ms) (drop i ps) ≡ (if eqb (get_or ms i 0) 1 then s else 0) ∷ cuts_of v (if eqb (get_or ms i 0) 1 then 48 else s) (drop (i + 1) ms) (drop (i + 1) ps)
+      → cuts_of v d (drop i ms) (drop i ps) ≡ (when eqb (get_or ms i 0) 1 then s else 0) ∷ cuts_of v (when eqb (get_or ms i 0) 1 then 48 else s) (drop (i + 1) ms) (drop (i + 1) ps)
   unfolding cuts_of
   cuts_turn d ms ps i hm hp s e =
       rw (drop-cons ms i 0 hm, drop-cons ps i [] hp, add-one, e)

@@ -7,7 +7,7 @@ use Rattle.std.proofs.Math.Path.{refl}
 use Rattle.std.proofs.Math.Bool.{false}
 use mathlib.Core.List.{List, [], ◌∷◌, map}
 use Rattle.std.proofs.Math.ListN.{length-map}
-use Rattle.texts.specs.Choice.{if◌then◌else◌, both_true, cases}
+use Rattle.texts.specs.Choice.{when◌then◌else◌, both_true, cases}
 use Rattle.texts.specs.Lists.{every}
 use Rattle.texts.specs.Text.{ascii, is_word, is_phone, ascii_take}
 use Rattle.versions.specs.Versions.{digits, is_stress}
@@ -27,7 +27,7 @@ last_stress_lem : (v d : ℕ) (ps : List (List ℕ)) → is_stress v d ≡ true 
 unfolding last_stress
 last_stress_lem v d [] h = h
 last_stress_lem v d (p ∷ ps) h =
-    last_stress_lem v (if is_stressed (digits v) p then stress (digits v) p else d) ps (cases (is_stressed (digits v) p) (λ e. rw e (digit v p e)) (λ e. rw e h))
+    last_stress_lem v (when is_stressed (digits v) p then stress (digits v) p else d) ps (cases (is_stressed (digits v) p) (λ e. rw e (digit v p e)) (λ e. rw e h))
 
 -- the bare phone is a front part
 bare_fits : (ds p : List ℕ) → is_phone p ≡ true → is_phone (bare ds p) ≡ true

@@ -2,7 +2,7 @@
 -- Assumes nothing.
 use Rattle.std.specs.Prelude.{ℕ, List, eqb}
 use Rattle.std.proofs.Math.Option.{Option}
-use Rattle.texts.specs.Choice.{if◌then◌else◌}
+use Rattle.texts.specs.Choice.{when◌then◌else◌}
 use Rattle.answers.specs.declared.Answer.{Answer}
 use Rattle.answers.specs.declared.Looked.{Looked}
 use Rattle.answers.specs.declared.Looked.TheVariants.{Refused, Nothing, Found}
@@ -11,7 +11,7 @@ use Rattle.lts_spec.specs.Call.{told_phones, out_phones}
 
 -- an answer of predict as a word's: the letter trees are its source
 abbrev pub by_letters : Answer → Answer
-by_letters a = if eqb a.refusal 0 then accepted_with 4 a.value a.second 0 else a
+by_letters a = when eqb a.refusal 0 then accepted_with 4 a.value a.second 0 else a
 
 -- what is answered behind a lookup, and the room: phones that were found stay
 abbrev pub told_behind : Looked → Option (List (List ℕ)) → ℕ → List ℕ → Answer

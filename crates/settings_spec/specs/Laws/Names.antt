@@ -4,7 +4,7 @@ use Prim.Native.Nat.{ℕ, zero, suc, ◌+◌, ◌*◌, ◌/◌, ◌%◌}
 use Rattle.std.specs.Prelude.{get_or}
 use mathlib.Core.List.{List, [], ◌∷◌}
 use Rattle.std.proofs.Math.Dec.{eqb}
-use Rattle.texts.specs.Choice.{if◌then◌else◌}
+use Rattle.texts.specs.Choice.{when◌then◌else◌}
 use Rattle.texts.specs.Text.{same}
 use Rattle.texts.specs.Laws.Mixed.{mixed}
 use Rattle.settings_spec.specs.Settings.{name_at, record_of}
@@ -17,8 +17,8 @@ place_of name = mixed 0 name * 40503 % 65536 / 16
 unfoldable pub sought : List ℕ → List ℕ → List ℕ → ℕ → ℕ → ℕ
 sought b table name zero k = record_of b name
 sought b table name (suc n) k =
-    if eqb (get_or table k 0) 0 then record_of b name
-    else if same name (name_at b (get_or table k 0)) then get_or table k 0
+    when eqb (get_or table k 0) 0 then record_of b name
+    else when same name (name_at b (get_or table k 0)) then get_or table k 0
     else sought b table name n ((k + 1) % 4096)
 
 -- the record that a table gives for a name
@@ -28,4 +28,4 @@ given b table name = sought b table name 64 (place_of name)
 -- of some records the first that is not given for its own name
 unfoldable pub first_lost : List ℕ → List ℕ → List ℕ → ℕ
 first_lost b table [] = 0
-first_lost b table (i ∷ is) = if eqb (given b table (name_at b i)) i then first_lost b table is else i
+first_lost b table (i ∷ is) = when eqb (given b table (name_at b i)) i then first_lost b table is else i

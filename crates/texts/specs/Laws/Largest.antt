@@ -2,13 +2,13 @@
 -- Assumes nothing.
 use Rattle.std.specs.Prelude.{ℕ, suc, ◌+◌, ◌≤◌, ◌<◌, ◌≡◌, refl, ◌&&◌, List, [], ◌∷◌, eqb, ltb, length, get_or, drop}
 use Rattle.std.proofs.Common.{add-one, arith, sym, ◌∙◌, drop_of_length-le, drop-cons, lt-ltb, le-ltb, ltb-true, ltb-false, eq-eqb, ne_eqb}
-use Rattle.texts.specs.Choice.{if◌then◌else◌, cases}
+use Rattle.texts.specs.Choice.{when◌then◌else◌, cases}
 use Rattle.texts.specs.Lists.{every}
 use Rattle.texts.specs.Text.{is, low, ascii}
 
 -- the larger of two bytes
 unfoldable pub larger : ℕ → ℕ → ℕ
-larger a b = if ltb a b then b else a
+larger a b = when ltb a b then b else a
 
 -- the largest byte, 0 of none
 unfoldable pub largest : List ℕ → ℕ

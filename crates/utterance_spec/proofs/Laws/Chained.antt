@@ -7,7 +7,7 @@ use Rattle.std.proofs.Math.Path.{refl, sym, ap, subst}
 use mathlib.Core.List.{List, [], ◌∷◌, ◌++◌, append_assoc, reverse, reverse_aux}
 use Rattle.std.proofs.Math.Dec.{eqb}
 use borrow.Author.Tests.{eqb-true, eqb-false, eq-eqb, ne_eqb, not-true}
-use Rattle.texts.specs.Choice.{if◌then◌else◌, cases, both_true}
+use Rattle.texts.specs.Choice.{when◌then◌else◌, cases, both_true}
 use Rattle.texts.specs.Lists.{every}
 use Rattle.records.specs.Chain.{All, Linked}
 use Rattle.versions.specs.Versions.{is_stress}
@@ -20,7 +20,7 @@ module _ (S : ℕ → Item) where
   -- the phones among items
   unfoldable pub phones_of : List ℕ → List ℕ
   phones_of [] = []
-  phones_of (x ∷ xs) = if eqb (S x).kind 3 then x ∷ phones_of xs else phones_of xs
+  phones_of (x ∷ xs) = when eqb (S x).kind 3 then x ∷ phones_of xs else phones_of xs
 
   phones_first : (ps xs : List ℕ) → All (λ (x : ℕ). (S x).kind ≡ 3) ps → phones_of (ps ++ xs) ≡ ps ++ phones_of xs
   unfolding phones_of

@@ -6,7 +6,7 @@ use Rattle.std.proofs.Math.Decide.{ℕ_discrete}
 use Rattle.std.proofs.Math.Path.{sym, ap, subst}
 use mathlib.Core.List.{List, [], ◌∷◌, ◌++◌, map, reverse, append-nil}
 use Rattle.std.proofs.Math.Dec.{eqb}
-use Rattle.texts.specs.Choice.{if◌then◌else◌}
+use Rattle.texts.specs.Choice.{when◌then◌else◌}
 use Rattle.texts.specs.Lists.{every, from}
 use Rattle.records.specs.Chain.{All, Distinct, Linked, end_of, all_map, all_append, all_end, end_append}
 use Rattle.items_spec.specs.Item.{Item}
@@ -25,11 +25,11 @@ with_word n a l u i =
       kind = i.kind;
       stress = i.stress;
       next = i.next;
-      first = if eqb i.last 0 then n else i.first;
+      first = when eqb i.last 0 then n else i.first;
       last = n;
       parent = u;
       prev = l;
-      follow = if eqb i.prev 0 then a else i.follow;
+      follow = when eqb i.prev 0 then a else i.follow;
       mark = i.mark;
       source = i.source;
       text = i.text;
@@ -76,7 +76,7 @@ module _ (S T : ℕ → Item) (n u : ℕ) (w : Word) (g : Grown S T n u w) where
   unfolding sibling
   tie_word = go (ℕ_discrete lw 0)
     where
-      go : Dec (lw ≡ 0) → (if eqb lw 0 then (T lw).first else (T lw).next) ≡ n
+      go : Dec (lw ≡ 0) → (when eqb lw 0 then (T lw).first else (T lw).next) ≡ n
       go (yes z) = rw (eq-eqb lw 0 z) (ap (λ (j : ℕ). (T j).first) z ∙ ap (λ (x : Item). x.first) g.head ∙ rw (eq-eqb lw 0 z))
       go (no z) = rw (ne_eqb lw 0 z) (ap (λ (x : Item). x.next) (g.word z))
 

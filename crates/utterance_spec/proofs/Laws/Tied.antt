@@ -5,7 +5,7 @@ use Rattle.std.proofs.Common.{arith, sym, ◌∙◌, eq-eqb, ne_eqb}
 use Rattle.std.proofs.Math.Decide.{ℕ_discrete}
 use Rattle.std.proofs.Math.Path.{ap}
 use mathlib.Core.List.{List}
-use Rattle.texts.specs.Choice.{if◌then◌else◌, cases}
+use Rattle.texts.specs.Choice.{when◌then◌else◌, cases}
 use Rattle.records.specs.Fields.{put16, length_put16}
 use Rattle.records.specs.Records.{record_at, put16_same, put16_other}
 use Rattle.items_spec.specs.Item.{Item, item_of, is_clean}
@@ -56,19 +56,19 @@ module _ (b : List ℕ) (lw lp n a l u : ℕ) where
       ∙ ap (λ (r : List ℕ). put16 r 12 a) (put16_other 64 b lw (word_link lw) n inside lp nw)
 
   -- item 0 has its first word if there was none, its first phone if there was none, and then the rest
-  head_word : record_at 64 one 0 ≡ (if eqb lw 0 then put16 (record_at 64 b 0) 4 n else record_at 64 b 0)
+  head_word : record_at 64 one 0 ≡ (when eqb lw 0 then put16 (record_at 64 b 0) 4 n else record_at 64 b 0)
   head_word = go (ℕ_discrete lw 0)
     where
-      go : Dec (lw ≡ 0) → record_at 64 one 0 ≡ (if eqb lw 0 then put16 (record_at 64 b 0) 4 n else record_at 64 b 0)
+      go : Dec (lw ≡ 0) → record_at 64 one 0 ≡ (when eqb lw 0 then put16 (record_at 64 b 0) 4 n else record_at 64 b 0)
       go (yes z) =
           ap (λ (j : ℕ). record_at 64 one j) (sym z) ∙ put16_same 64 b lw (word_link lw) n inside
           ∙ ap (λ (j : ℕ). put16 (record_at 64 b j) (word_link lw) n) z ∙ rw (eq-eqb lw 0 z)
       go (no z) = put16_other 64 b lw (word_link lw) n inside 0 (λ e. z (sym e)) ∙ rw (ne_eqb lw 0 z)
 
-  head_phone : record_at 64 two 0 ≡ (if eqb lp 0 then put16 (record_at 64 one 0) 12 a else record_at 64 one 0)
+  head_phone : record_at 64 two 0 ≡ (when eqb lp 0 then put16 (record_at 64 one 0) 12 a else record_at 64 one 0)
   head_phone = go (ℕ_discrete lp 0)
     where
-      go : Dec (lp ≡ 0) → record_at 64 two 0 ≡ (if eqb lp 0 then put16 (record_at 64 one 0) 12 a else record_at 64 one 0)
+      go : Dec (lp ≡ 0) → record_at 64 two 0 ≡ (when eqb lp 0 then put16 (record_at 64 one 0) 12 a else record_at 64 one 0)
       go (yes z) =
           ap (λ (j : ℕ). record_at 64 two j) (sym z) ∙ put16_same 64 one lp 12 a (omega arith)
           ∙ ap (λ (j : ℕ). put16 (record_at 64 one j) 12 a) z ∙ rw (eq-eqb lp 0 z)
@@ -95,8 +95,8 @@ step r s i o v f h l e = record { long = length_put16 s o v ∙ h.long; clean = 
 
 -- the ties made in one item, first and follow only if asked for
 retied_head : (r : List ℕ) (n a l u : ℕ) (p q : Bool) → length r ≡ 64 → n < 65536 → a < 65536 → l < 65536 → u < 65536
-    → Holds r (put16 (put16 (put16 (if q then put16 (if p then put16 r 4 n else r) 12 a else (if p then put16 r 4 n else r)) 6 n) 10 l) 8 u)
-    (renumbered (item_of r).next (if p then n else (item_of r).first) n u l (if q then a else (item_of r).follow) (item_of r))
+    → Holds r (put16 (put16 (put16 (when q then put16 (when p then put16 r 4 n else r) 12 a else (when p then put16 r 4 n else r)) 6 n) 10 l) 8 u)
+    (renumbered (item_of r).next (when p then n else (item_of r).first) n u l (when q then a else (item_of r).follow) (item_of r))
 retied_head r n a l u p q long hn ha hl hu = go p q
   where
     rest : (s : List ℕ) (i : Item) → Holds r s i → Holds r (put16 (put16 (put16 s 6 n) 10 l) 8 u) (renumbered i.next i.first n u l i.follow i)
@@ -118,8 +118,8 @@ retied_head r n a l u p q long hn ha hl hu = go p q
     word : Holds r (put16 r 4 n) (renumbered (item_of r).next n (item_of r).last (item_of r).parent (item_of r).prev (item_of r).follow (item_of r))
     word = step r r (item_of r) 4 n (λ (i : Item). renumbered i.next n i.last i.parent i.prev i.follow i) same (omega arith) (patch_first r n long hn)
 
-    go : (p q : Bool) → Holds r (put16 (put16 (put16 (if q then put16 (if p then put16 r 4 n else r) 12 a else (if p then put16 r 4 n else r)) 6 n) 10 l) 8 u)
-        (renumbered (item_of r).next (if p then n else (item_of r).first) n u l (if q then a else (item_of r).follow) (item_of r))
+    go : (p q : Bool) → Holds r (put16 (put16 (put16 (when q then put16 (when p then put16 r 4 n else r) 12 a else (when p then put16 r 4 n else r)) 6 n) 10 l) 8 u)
+        (renumbered (item_of r).next (when p then n else (item_of r).first) n u l (when q then a else (item_of r).follow) (item_of r))
     go true true =
         let i : Item = renumbered (item_of r).next n (item_of r).last (item_of r).parent (item_of r).prev (item_of r).follow (item_of r) in
         rest (put16 (put16 r 4 n) 12 a) (renumbered i.next i.first i.last i.parent i.prev a i) (phone (put16 r 4 n) i word)

@@ -4,7 +4,7 @@ use Rattle.std.specs.Prelude.{ℕ, ◌+◌, ◌≡◌, refl, ◌≢◌, true, eq
 use Rattle.std.proofs.Common.{sym, ◌∙◌, subst}
 use mathlib.Core.List.{List, [], ◌∷◌, ◌++◌}
 use borrow.Author.Tests.{eqb-true, eqb-false, eq-eqb, ne_eqb}
-use Rattle.texts.specs.Choice.{if◌then◌else◌, cases, both_true}
+use Rattle.texts.specs.Choice.{when◌then◌else◌, cases, both_true}
 use Rattle.records.specs.Chain.{All, Linked, end_of, all_map}
 use Rattle.items_spec.specs.Item.{Item}
 use Rattle.utterance_spec.specs.Tree.{sibling, Children}
@@ -38,7 +38,7 @@ linked_run f p (x ∷ xs) h = (h.0, h.1, linked_run f x xs h.2)
 
 -- a link, or where there is none the way up
 abbrev pub or_else : ℕ → ℕ → ℕ
-or_else c u = if eqb c 0 then u else c
+or_else c u = when eqb c 0 then u else c
 
 pub or_up : (c u : ℕ) → c ≡ 0 → or_else c u ≡ u
 or_up c u e = rw (eq-eqb c 0 e)

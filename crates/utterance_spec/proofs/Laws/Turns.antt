@@ -16,25 +16,24 @@ use Rattle.utterance_spec.specs.Sheet.{at, used, items, version, after, is_sung,
 use Rattle.utterance_spec.proofs.Decided.{placed}
 use Rattle.utterance_spec.specs.Laws.Turns.{is_tied, last_phone, is_last, is_met, is_ordered}
 
--- an item of the sheet has 64 bytes
 -- an item that is well placed is inside the sheet
 pub placed_inside : (b : List ℕ) (n : ℕ) → used b < items b → is_placed b n ≡ true → n < items b
 placed_inside b n r h = let i = (placed b n h).0.inside in omega arith
 
 -- an item x behind phone q: it is tied to q both ways if it is a phone; the phone that items behind it are tied to; and q as the last phone
 module _ (S : ℕ → Item) where
-  pub last_inside : (n q x : ℕ) → q < n → x < n → last_phone q x < n
+  pub last_inside : (n q x : ℕ) → q < n → x < n → last_phone S q x < n
   unfolding last_phone
   last_inside n q x h k = cases (eqb (S x).kind 3) (λ e. rw e k) (λ e. rw e h)
 
-  chained_tied : (q x : ℕ) (xs : List ℕ) → is_tied q x ≡ true → is_chained S q (x ∷ xs) ≡ is_chained S (last_phone q x) xs
+  chained_tied : (q x : ℕ) (xs : List ℕ) → is_tied S q x ≡ true → is_chained S q (x ∷ xs) ≡ is_chained S (last_phone S q x) xs
   unfolding is_chained is_tied last_phone
   chained_tied q x xs t =
       cases (eqb (S x).kind 3)
       (λ e. let u : (eqb (S q).follow x && eqb (S x).prev q) ≡ true = rw e at t in rw (e, u))
       (λ e. rw e)
 
-  chained_loose : (q x : ℕ) (xs : List ℕ) → is_tied q x ≡ false → is_chained S q (x ∷ xs) ≡ false
+  chained_loose : (q x : ℕ) (xs : List ℕ) → is_tied S q x ≡ false → is_chained S q (x ∷ xs) ≡ false
   unfolding is_chained is_tied
   chained_loose q x xs t =
       cases (eqb (S x).kind 3)
@@ -42,12 +41,12 @@ module _ (S : ℕ → Item) where
       (λ e. let u : true ≡ false = rw e at t in never true refl u)
 
   -- an item met, sung and tied leaves the items behind it to decide
-  met_tied : (v q x : ℕ) (xs : List ℕ) (w o : Bool) → o ≡ (w && every (is_sung S v) xs && is_chained S (last_phone q x) xs)
-      → (is_sung S v x && is_tied q x && o) ≡ (w && every (is_sung S v) (x ∷ xs) && is_chained S q (x ∷ xs))
+  met_tied : (v q x : ℕ) (xs : List ℕ) (w o : Bool) → o ≡ (w && every (is_sung S v) xs && is_chained S (last_phone S q x) xs)
+      → (is_sung S v x && is_tied S q x && o) ≡ (w && every (is_sung S v) (x ∷ xs) && is_chained S q (x ∷ xs))
   unfolding every
   met_tied v q x xs w o h =
       cases (is_sung S v x)
-      (λ f. cases (is_tied q x) (λ t. rw (f, t, chained_tied q x xs t) h) (λ t. rw (f, t, chained_loose q x xs t, and-false)))
+      (λ f. cases (is_tied S q x) (λ t. rw (f, t, chained_tied q x xs t) h) (λ t. rw (f, t, chained_loose q x xs t, and-false)))
       (λ f. rw (f, and-false))
 
 -- and an item met is inside

@@ -5,17 +5,17 @@ use Prim.Native.Nat.{ℕ, zero, suc}
 use Rattle.std.specs.Prelude.{Bool, ◌&&◌, List}
 use Rattle.std.proofs.Math.Bool.{true}
 use Rattle.std.proofs.Math.Dec.{eqb}
-use Rattle.texts.specs.Choice.{if◌then◌else◌}
+use Rattle.texts.specs.Choice.{when◌then◌else◌}
 use Rattle.items_spec.specs.Item.{Item}
 use Rattle.utterance_spec.specs.Sheet.{at, version, after, is_sung, is_placed}
 
 -- an item x behind phone q: it is tied to q both ways if it is a phone; the phone that items behind it are tied to; and q as the last phone
 module _ (S : ℕ → Item) where
   unfoldable pub is_tied : ℕ → ℕ → Bool
-  is_tied q x = if eqb (S x).kind 3 then eqb (S q).follow x && eqb (S x).prev q else true
+  is_tied q x = when eqb (S x).kind 3 then eqb (S q).follow x && eqb (S x).prev q else true
 
   unfoldable pub last_phone : ℕ → ℕ → ℕ
-  last_phone q x = if eqb (S x).kind 3 then x else q
+  last_phone q x = when eqb (S x).kind 3 then x else q
 
   unfoldable pub is_last : ℕ → Bool
   is_last q = eqb (S q).follow 0 && eqb (S 0).prev q
