@@ -1,12 +1,8 @@
 -- `entryline::count_fields` meets its contract: n are passed, and those left are to be counted. Assumes nothing.
-use Rattle.lines.specs.Laws.Turns.{fields_none, fields_more, field_forward, fields_past}
-use Rattle.lines.specs.Lines.{is_empty, fields}
+use Rattle.lines.specs.Lines.{fields}
 use lib.ListN.{length, drop}
-use mathlib.Core.List.{List}
-use mathlib.Core.Bool.{false}
-use mathlib.Core.Path.{◌≡◌, sym, ap, ◌∙◌}
-use native.Mathlib.Omega.{arith}
-use Prim.Native.Nat.{ℕ, ◌+◌, ◌-◌, ◌≤◌}
+use mathlib.Core.Path.{◌≡◌}
+use Prim.Native.Nat.{◌+◌, ◌-◌, ◌≤◌}
 use Rattle.entryline.proofs.fields.count_fields.Given as goal
 
 abbrev pub invariant-loop-at : goal.invariant-loop-at

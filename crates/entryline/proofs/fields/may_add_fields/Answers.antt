@@ -1,14 +1,12 @@
 -- `entryline::may_add_fields` meets its contract: the fields passed may be added, so those left decide. Assumes nothing.
 use Rattle.lexicon_spec.specs.Adding.{may_add}
 use Rattle.lines.specs.Laws.Turns.{fields_none, fields_more, field_forward, fields_past}
-use Rattle.lines.specs.Lines.{is_empty, field, fields}
+use Rattle.lines.specs.Lines.{is_empty, field}
 use Rattle.texts.specs.Lists.{every}
-use borrow.Author.Tests.{not-true, not-false}
-use lib.ListN.{length, drop}
+use lib.ListN.{drop}
 use mathlib.Core.Bool.{false}
 use mathlib.Core.Path.{◌≡◌, refl, sym, ap, ◌∙◌}
 use native.Mathlib.Omega.{arith}
-use Prim.Native.Nat.{◌-◌, ◌≤◌}
 use Rattle.entryline.proofs.fields.may_add_fields.Goals as goal
 
 pub loop-at-init : goal.loop-at-init

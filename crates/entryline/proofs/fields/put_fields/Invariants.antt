@@ -1,16 +1,10 @@
 -- `entryline::put_fields` meets its contract: after i fields, dst is what pasting i cells leaves. Assumes nothing.
-use Rattle.lines.specs.Laws.Turns.{fields_none, fields_more, field_forward, fields_past}
-use Rattle.lines.specs.Lines.{is_empty, field, fields, after_field}
-use Rattle.cells.specs.Cells.{cells_of, cell, cells_turn}
-use Rattle.records.specs.Records.{put_record}
-use lib.Seq.{paste, paste-zero, get_or-drop, drop-drop}
-use lib.ListN.{length, get_or, drop, length-drop}
-use mathlib.Core.List.{List, [], ◌∷◌}
-use mathlib.Core.Bool.{false}
-use mathlib.Core.Path.{◌≡◌, refl, sym, ap, ◌∙◌}
-use native.Mathlib.Omega.{arith}
-use native.Mathlib.Nat.{zero-add}
-use Prim.Native.Nat.{ℕ, ◌+◌, ◌-◌, ◌*◌, ◌≤◌, ◌<◌, zero-le}
+use Rattle.lines.specs.Lines.{fields}
+use Rattle.cells.specs.Cells.{cells_of}
+use lib.Seq.{paste}
+use lib.ListN.{length, drop}
+use mathlib.Core.Path.{◌≡◌}
+use Prim.Native.Nat.{◌-◌, ◌*◌, ◌≤◌}
 use Rattle.entryline.proofs.fields.put_fields.Given as goal
 
 abbrev pub invariant-loop-at : goal.invariant-loop-at
