@@ -1,4 +1,7 @@
 // A text of entries (01, Lookup: Adding) below its calls: filling the spare, telling what was filled, and taking it.
+
+#![tactic(auto)]
+
 ghost use Rattle.std.specs.Prelude.{◌≡◌, ◌≢◌, true, length};
 ghost use Rattle.texts.specs.Text.{ascii};
 ghost use Rattle.data.specs.Sections.{is_phone_table};
