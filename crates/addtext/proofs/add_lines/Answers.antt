@@ -1,10 +1,10 @@
 -- `addtext::add_lines` meets its contract: the lines passed are in the store, and those left decide. Assumes nothing.
-use Prim.Native.Nat.{ℕ, ◌+◌, ◌-◌, ◌≤◌}
+use Prim.Native.Nat.{ℕ, ◌+◌, ◌≤◌}
 use native.Mathlib.Omega.{arith}
 use mathlib.Core.Path.{◌≡◌, refl, sym, ap, ◌∙◌}
 use mathlib.Core.Bool.{true}
 use mathlib.Core.List.{List}
-use lib.ListN.{length, drop}
+use lib.ListN.{drop}
 use Rattle.texts.specs.Text.{ascii, ascii_drop}
 use Rattle.lines.specs.Lines.{first_line, after_line, lines}
 use Rattle.lines.specs.Laws.Ascii.{ascii_line}

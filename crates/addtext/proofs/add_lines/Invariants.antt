@@ -1,21 +1,11 @@
 -- `addtext::add_lines` meets its contract: the lines passed are in the store, and those left decide. Assumes nothing.
-use Prim.Native.Nat.{ℕ, ◌+◌, ◌-◌, ◌≤◌}
-use native.Mathlib.Omega.{arith}
-use mathlib.Core.Path.{◌≡◌, refl, sym, ap, ◌∙◌}
-use mathlib.Core.Logic.{inl, inr}
+use Prim.Native.Nat.{◌+◌, ◌-◌, ◌≤◌}
+use mathlib.Core.Path.{◌≡◌}
 use mathlib.Core.Bool.{true}
-use mathlib.Core.List.{List}
 use lib.ListN.{length, drop}
-use Rattle.texts.specs.Text.{ascii, ascii_drop}
-use Rattle.lines.specs.Lines.{first_line, after_line, lines}
-use Rattle.lines.specs.Laws.Ascii.{ascii_line}
+use Rattle.lines.specs.Lines.{lines}
 use Rattle.store_spec.specs.Store.{is_sound}
-use Rattle.store_spec.proofs.Sound.{sound}
-use Rattle.store_spec.proofs.Sound.{is_sound_lem}
-use Rattle.addtext_spec.specs.Line.{read_line, behind_line}
-use Rattle.addtext_spec.specs.Filling.{Filled, onward, filled}
-use Rattle.addtext_spec.proofs.Laws.Turns.{filled_turn, filled_end}
-use Rattle.addtext_spec.proofs.Grown.{low_line, line_sound}
+use Rattle.addtext_spec.specs.Filling.{filled}
 use Rattle.addtext.proofs.add_lines.Given as goal
 
 abbrev pub invariant-loop-at : goal.invariant-loop-at

@@ -1,13 +1,11 @@
 -- `addtext::fill_and_take` meets its contract: the store gets the spare's bytes, the count one higher, only where no line stopped it. Assumes nothing.
-use native.Mathlib.Omega.{arith}
-use mathlib.Core.Path.{◌≡◌, refl, sym, ap, ◌∙◌}
+use mathlib.Core.Path.{◌≡◌, sym, ap, ◌∙◌}
 use Prim.Native.Nat.{ℕ, ◌+◌}
 use mathlib.Core.List.{List}
 use lib.ListN.{length}
-use Rattle.store_spec.specs.Store.{count, with_count, largest}
+use Rattle.store_spec.specs.Store.{count, with_count}
 use Rattle.store_spec.proofs.Sound.{sound}
 use Rattle.store_spec.proofs.Result.{long}
-use Rattle.answers.specs.declared.Answer.{Answer}
 use Rattle.answers.specs.Told.{accepted, told_lines, written}
 use Rattle.addtext_spec.specs.Filling.{Filled, text_filled, spare_filled}
 use Rattle.addtext_spec.proofs.Grown.{stays}

@@ -1,6 +1,6 @@
 -- `addtext::fill_and_tell` meets its contract: of the lines taken, those that use no new slot replaced an entry. Assumes nothing.
 use native.Mathlib.Omega.{arith}
-use mathlib.Core.Path.{◌≡◌, refl, sym, ap, ◌∙◌}
+use mathlib.Core.Path.{◌≡◌, sym, ap, ◌∙◌}
 use Prim.Native.Nat.{ℕ, ◌-◌, ◌≤◌}
 use mathlib.Core.List.{List}
 use Rattle.store_spec.specs.Store.{used, entries}

@@ -1,15 +1,15 @@
 -- `addtext::fill_spare` meets its contract: the spare is the store when the lines are added to it, and a stop sets its count. Assumes nothing.
 use native.Mathlib.Omega.{arith}
-use mathlib.Core.Path.{◌≡◌, refl, sym, ap, ◌∙◌}
-use Prim.Native.Nat.{ℕ, ◌≤◌}
+use mathlib.Core.Path.{◌≡◌, sym, ap, ◌∙◌}
+use Prim.Native.Nat.{ℕ}
 use mathlib.Core.List.{List}
 use lib.ListN.{length}
 use Rattle.records.specs.Records.{paste_whole}
-use Rattle.store_spec.specs.Store.{is_sound, with_count, largest}
+use Rattle.store_spec.specs.Store.{is_sound}
 use Rattle.store_spec.proofs.Sound.{sound}
 use Rattle.store_spec.proofs.Result.{long}
 use Rattle.answers.specs.Told.{told_lines}
-use Rattle.addtext_spec.specs.Filling.{Filled, text_filled, spare_filled}
+use Rattle.addtext_spec.specs.Filling.{Filled, text_filled}
 use Rattle.addtext_spec.proofs.Laws.Ends.{spare_stopped, spare_whole}
 use Rattle.addtext.proofs.fill_spare.Goals as goal
 
