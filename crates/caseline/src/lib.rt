@@ -1,4 +1,7 @@
 // A line of cases: its tokens, the bytes that they stand for, and what a call gave back compared with them.
+
+#![tactic(auto)]
+
 mod handed;
 mod read;
 
