@@ -1,10 +1,6 @@
 -- `lts::padded` meets its contract: after i bytes the text is "000#", i folded bytes and "0" behind them. Assumes nothing.
-use Prim.Native.Nat.{ℕ, ◌+◌, ◌-◌, ◌≤◌}
 use native.Mathlib.Omega.{arith}
-use mathlib.Core.Path.{◌≡◌, refl, sym, ap, ◌∙◌}
-use mathlib.Core.List.{◌++◌}
-use lib.ListN.{length, replicate}
-use Rattle.lts.proofs.Fill.{front, front_more, front_all}
+use Rattle.lts.proofs.Fill.{front_more, front_all}
 use Rattle.lts.proofs.padded.Goals as goal
 
 pub loop-i-preserved : goal.loop-i-preserved

@@ -1,10 +1,9 @@
 -- `lts::padded` meets its contract: after i bytes the text is "000#", i folded bytes and "0" behind them. Assumes nothing.
-use Prim.Native.Nat.{ℕ, ◌+◌, ◌-◌, ◌≤◌}
-use native.Mathlib.Omega.{arith}
-use mathlib.Core.Path.{◌≡◌, refl, sym, ap, ◌∙◌}
+use Prim.Native.Nat.{◌-◌, ◌≤◌}
+use mathlib.Core.Path.{◌≡◌}
 use mathlib.Core.List.{◌++◌}
 use lib.ListN.{length, replicate}
-use Rattle.lts.proofs.Fill.{front, front_more, front_all}
+use Rattle.lts.proofs.Fill.{front}
 use Rattle.lts.proofs.padded.Given as goal
 
 abbrev pub invariant-loop-i : goal.invariant-loop-i

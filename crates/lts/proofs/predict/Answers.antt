@@ -1,6 +1,5 @@
 -- `lts::predict` meets its contract: the sections and the word are refused first, in this order. Assumes nothing.
 use mathlib.Core.Path.{refl, sym, ◌∙◌}
-use borrow.Author.Tests.{not-true, not-false}
 use Rattle.texts.specs.Text.{word_short}
 use Rattle.lts_spec.specs.Call.{predict, predicted}
 use Rattle.lts.proofs.predict.Goals as goal

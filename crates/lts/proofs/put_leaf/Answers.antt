@@ -1,14 +1,12 @@
 -- `lts::put_leaf` meets its contract: nothing, two cells or one before `at`, by the definition's tests. Assumes nothing.
 use Rattle.cells.specs.Cells.{cell}
 use Rattle.records.specs.Records.{put_record}
-use Prim.Native.Nat.{ℕ, ◌+◌, ◌-◌, ◌≤◌, ◌<◌}
+use Prim.Native.Nat.{ℕ, ◌+◌, ◌-◌}
 use native.Mathlib.Omega.{arith}
-use mathlib.Core.Path.{◌≡◌, sym, ap, ◌∙◌}
+use mathlib.Core.Path.{sym, ap, ◌∙◌}
 use mathlib.Core.List.{List}
-use lib.ListN.{length, take, drop, length-take, length-drop}
-use Rattle.records.specs.Records.{part_from, length_put_record}
-use Rattle.texts.specs.Lists.{place}
-use Rattle.texts.specs.Text.{is}
+use lib.ListN.{take, drop, length-take, length-drop}
+use Rattle.records.specs.Records.{part_from}
 use Rattle.lts_spec.proofs.Letters.{spoken_none, spoken_two, spoken_one}
 use Rattle.lts.proofs.Put.{puts_none, puts_one, puts_two}
 use Rattle.lts.proofs.put_leaf.Goals as goal

@@ -1,21 +1,15 @@
 -- `lts::put_letter` meets its contract: a letter's leaf is put, any other byte puts nothing. Assumes nothing.
-use Prim.Native.Nat.{ℕ, ◌*◌, ◌-◌, ◌/◌, ◌≤◌, ◌<◌}
+use Prim.Native.Nat.{◌<◌}
 use native.Mathlib.Omega.{arith}
-use mathlib.Core.Path.{◌≡◌, refl, sym, ap, ◌∙◌, subst}
-use mathlib.Core.Bool.{Bool, true, ◌&&◌}
-use mathlib.Core.List.{List, []}
-use mathlib.Core.Option.{Option}
-use lib.ListN.{length, get_or}
-use Rattle.texts.specs.Choice.{both_true}
-use Rattle.records.specs.Fields.{u16_at, u32_at}
-use Rattle.data.specs.Sections.{is_phone_table, is_lts_index, is_lts_model, table_fits}
+use mathlib.Core.Path.{◌≡◌, refl, sym, ◌∙◌}
+use mathlib.Core.Bool.{true}
+use lib.ListN.{get_or}
+use Rattle.records.specs.Fields.{u32_at}
+use Rattle.data.specs.Sections.{is_phone_table, table_fits}
 use Rattle.data.specs.Places.{Placed, PhoneAt, phone_placed}
-use Rattle.trees.specs.Walk.{walk}
 use Rattle.trees.proofs.WalkLaws.{walk_leaf}
 use Rattle.trees.specs.declared.Walked.TheVariants.{Phone, Damaged}
-use Rattle.lts_spec.specs.Letters.{is_trees, window, letter}
 use Rattle.lts_spec.proofs.Letters.{letter_left, letter_right, letter_walked, trees_table, trees_model}
-use Rattle.lts.specs.Puts.{Puts}
 use Rattle.lts.proofs.Put.{puts_none}
 use borrow.Author.Rules.{rules}
 use Rattle.lts.proofs.put_letter.Goals as goal

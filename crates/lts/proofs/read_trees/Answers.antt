@@ -1,6 +1,5 @@
 -- `lts::read_trees` meets its contract: each return is decided by the first form that is broken, and trees have a table. Assumes nothing.
 use mathlib.Core.Path.{sym, ◌∙◌}
-use borrow.Author.Tests.{not-true, not-false}
 use Rattle.lts_spec.specs.Letters.{is_trees}
 use Rattle.lts_spec.proofs.Letters.{trees_table}
 use Rattle.lts.proofs.read_trees.Goals as goal

@@ -1,5 +1,5 @@
 -- `lts::spell` meets its contract: the loop goes leftwards over the padded word, and stops behind its last "#". Assumes nothing.
-use Prim.Native.Nat.{ℕ, ◌+◌, ◌≤◌}
+use Prim.Native.Nat.{ℕ, ◌+◌}
 use native.Mathlib.Omega.{arith}
 use mathlib.Core.Path.{◌≡◌, refl, sym, ap}
 use mathlib.Core.Bool.{true, false}
@@ -8,8 +8,8 @@ use lib.ListN.{length, get_or}
 use borrow.Author.Tests.{eq-eqb, ne_eqb}
 use Rattle.texts.specs.Text.{is}
 use Rattle.lts_spec.specs.Letters.{padded, letters}
-use Rattle.lts.proofs.Stopping.{Left, left_start, left_end, left_stop, left_turn}
-use Rattle.lts.proofs.Leftwards.{Spelling, padded_length, spelling_start, spelling_end, spelling_stop, spelling_damaged, spelling_turn}
+use Rattle.lts.proofs.Stopping.{left_start, left_end, left_stop, left_turn}
+use Rattle.lts.proofs.Leftwards.{padded_length, spelling_start, spelling_end, spelling_stop, spelling_damaged, spelling_turn}
 use Rattle.lts.proofs.spell.Goals as goal
 
 pub slice_bounds-text-end : goal.slice_bounds-text-end

@@ -1,11 +1,11 @@
 -- `lts::spell_out` meets its contract: the cells at the end of the list are copied to the front of the output. Assumes nothing.
-use Prim.Native.Nat.{ℕ, ◌*◌, ◌≤◌, ◌-◌}
+use Prim.Native.Nat.{ℕ, ◌*◌, ◌-◌}
 use native.Mathlib.Omega.{arith}
 use mathlib.Core.Path.{◌≡◌, ap, ◌∙◌}
 use mathlib.Core.List.{List}
-use lib.ListN.{length, drop, length-take, length-drop}
+use lib.ListN.{length}
 use lib.Seq.{paste}
-use borrow.Author.Tests.{lt-ltb, le-ltb}
+use borrow.Author.Tests.{le-ltb}
 use Rattle.records.specs.Records.{part_from, paste_front}
 use Rattle.cells.specs.Cells.{cells_of}
 use Rattle.answers.specs.Told.{accepted_with}

@@ -1,6 +1,5 @@
 -- `lts::window` meets its contract: two parts of four bytes, one behind the other. Assumes nothing.
 use Rattle.lts.proofs.Fill.{parts}
-use Rattle.lts_spec.specs.Letters.{window}
 use Rattle.lts.proofs.window.Goals as goal
 
 pub returns : goal.returns

@@ -1,6 +1,6 @@
 -- `language::symbol` meets its contract: each arm's bytes are those of one of the definition's lists. Assumes nothing.
 use mathlib.Core.Logic.{◌⊎◌, inl, inr, ⊎_elim}
-use mathlib.Core.Path.{◌≡◌, sym}
+use mathlib.Core.Path.{◌≡◌}
 use Prim.Native.Nat.{ℕ}
 use Rattle.language.specs.Machine.{symbol, symbol_other}
 use native.Mathlib.Omega.{arith}
@@ -9,8 +9,7 @@ use borrow.Author.Tests.{eqb-true, eqb-false}
 use Rattle.texts.specs.Choice.{cases}
 use Rattle.texts.specs.Lists.{some}
 use Rattle.texts.specs.Text.{is}
-use Rattle.language.proofs.symbol.Statement.{statement}
-use Rattle.language.proofs.symbol.Tie as tie
+use Rattle.language.proofs.symbol.Goals as goal
 
 -- no vowel and no y
 abbrev Vowel : ℕ → Type 0
@@ -21,23 +20,21 @@ other b v n m =
     symbol_other b n m (λ e. v (inl e)) (λ e. v (inr (inl e))) (λ e. v (inr (inr (inl e)))) (λ e. v (inr (inr (inr (inl e)))))
     (λ e. v (inr (inr (inr (inr (inl e)))))) (λ e. v (inr (inr (inr (inr (inr e))))))
 
-returns : tie.Need-returns
+pub returns-in-97 : goal.returns-in-97
 unfolding symbol some is
-returns c = ⊎_elim (λ e. rw e) (⊎_elim (λ e. rw e) (⊎_elim (λ e. rw e) (⊎_elim (λ e. rw e) (⊎_elim (λ e. rw e) (λ e. rw e))))) c.match.keys1
+returns-in-97 c =
+    ⊎_elim (λ e. rw e) (⊎_elim (λ e. rw e) (⊎_elim (λ e. rw e) (⊎_elim (λ e. rw e) (⊎_elim (λ e. rw e) (λ e. rw e))))) c.in-97.is
 
-returns-2 : tie.Need-returns-2
+pub returns-in-109 : goal.returns-in-109
 unfolding symbol some is
-returns-2 c =
-    let b = c.before.before.before.args.b in
+returns-in-109 c =
+    let b = c.args.b in
     cases (eqb b 110)
     (λ e. rw (eqb-true b 110 e))
     (λ e. let z : b ≡ 109 = omega (arith, eqb-false b 110 e) in rw z)
 
-returns-3 : tie.Need-returns-3
-returns-3 c = other c.before.before.args.b c.before.match.rest.1 (λ e. omega arith) (λ e. omega arith)
+pub returns-in_default : goal.returns-in_default
+returns-in_default c = other c.args.b c.in_default.in_default-own.rest.1 (λ e. omega arith) (λ e. omega arith)
 
-returns-4 : tie.Need-returns-4
-returns-4 c = other c.before.before.before.args.b c.before.before.match.rest.1 (λ e. omega arith) (λ e. omega arith)
-
-pub symbol-spec : {M : Type 1} → statement M
-symbol-spec = tie.close (tie.spec returns returns-2 returns-3 returns-4)
+pub returns-in_default-2 : goal.returns-in_default-2
+returns-in_default-2 c = other c.args.b c.in_default.in_default-own.rest.1 (λ e. omega arith) (λ e. omega arith)
