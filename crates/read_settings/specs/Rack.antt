@@ -1,7 +1,7 @@
 -- 02, S-12: the rack's stretch is never a NaN nor an infinity: of two stretches in range the product, rounded once, lies from 1/16 to 16.
 -- Assumes nothing.
-use Rattle.std.specs.Prelude.{ℕ, zero, suc, ◌+◌, ◌*◌, ◌^◌, ◌≤◌, ◌<◌, ◌≡◌, refl, Bool, true, false, not, ◌&&◌, ◌||◌, List, T, eqb, ltb, ℤ, pos, negsuc, Float}
-use Rattle.std.proofs.Common.{le_trans, le_of_eq, mul-le-mul_left, mul-le-mul_right, mul_assoc, mul_comm, mul_left_comm, mul-pos, arith, sym, subst, pow_pos, ltb-true, eqb-true, ne_eqb}
+use Rattle.std.specs.Prelude.{ℕ, suc, ◌*◌, ◌≤◌, ◌<◌, ◌≡◌, refl, true, false, not, ◌&&◌, ◌||◌, List, T, eqb, ltb, ℤ, pos, negsuc, Float}
+use Rattle.std.proofs.Common.{le_trans, mul-le-mul_left, mul-le-mul_right, mul_assoc, mul_comm, mul_left_comm, mul-pos, arith, subst, pow_pos, ltb-true, eqb-true, ne_eqb}
 use Rattle.std.specs.Int.Count.{count_trailing_zeros}
 use Rattle.std.specs.Float.{nan, inf, fin, binary32}
 use Rattle.std.specs.Float.Ieee.{mul, round, units, size, span, climb, odd, le, lt, eq, up, down}

@@ -1,16 +1,13 @@
 -- 02, S-12: what an accepted write leaves. The chain is sound, the named setting has the value handed in, and every other setting has the value it had.
 -- Assumes nothing.
-use Rattle.std.specs.Prelude.{ℕ, ◌<◌, ◌≡◌, refl, ◌≢◌, Bool, true, false, not, ◌&&◌, ◌||◌, List, [], ◌∷◌, eqb}
-use Rattle.std.proofs.Common.{sym, ◌∙◌, eq-eqb, eqb-true, ne_eqb}
+use Rattle.std.specs.Prelude.{ℕ, ◌<◌, ◌≡◌, refl, ◌≢◌, true, false, not, ◌&&◌, ◌||◌, List, [], ◌∷◌, eqb}
+use Rattle.std.proofs.Common.{sym, ◌∙◌, ne_eqb}
 use Rattle.std.proofs.Math.Path.{ap}
 use Rattle.std.specs.Float.{nan, binary32}
 use Rattle.std.specs.Float.Ieee.{of_bits}
-use Rattle.std.proofs.lemmas.Bool.{eqb-false}
-use Rattle.texts.specs.Choice.{when◌then◌else◌, cases, never, both_true}
+use Rattle.texts.specs.Choice.{cases, never, both_true}
 use Rattle.texts.specs.Text.{bytes, same, same_true}
 use Rattle.records.specs.Fields.{u32_at, put32}
-use Rattle.answers.specs.declared.Answer.{Answer}
-use Rattle.answers.specs.Told.{refused, accepted, written}
 use Rattle.values.specs.declared.Setting.{Setting}
 use Rattle.values.specs.declared.Setting.TheVariants.{Whole, Real}
 use Rattle.values.specs.declared.Known.{Known}
@@ -20,7 +17,7 @@ use Rattle.values.specs.Laws.Bits.{nan_never}
 use Rattle.settings_spec.specs.Settings.{name_at, kind_at, value_at, order, is_sound, named, record_of, value_of, pitch_of, stretch_of, level_of, all_fit}
 use Rattle.settings_spec.proofs.Written.{written_sound, written_here, written_other}
 use Rattle.write_setting.specs.WriteSetting.{write_setting}
-use Rattle.write_setting.specs.Given.{Allowed, allowed, given_after}
+use Rattle.write_setting.specs.Given.{allowed, given_after}
 
 -- a record that is found has the name
 named_name : (b name is : List ℕ) → named b name is ≢ 0 → name_at b (named b name is) ≡ name

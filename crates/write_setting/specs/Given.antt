@@ -3,9 +3,8 @@
 use Rattle.std.specs.Prelude.{ℕ, ◌<◌, ◌≡◌, refl, ◌≢◌, true, false, not, ◌&&◌, List, eqb}
 use Rattle.std.proofs.Common.{eqb-true}
 use Rattle.std.proofs.lemmas.Bool.{eqb-false, not-true}
-use Rattle.texts.specs.Choice.{when◌then◌else◌, cases, never, both_true}
-use Rattle.answers.specs.Told.{refused, accepted, written}
-use Rattle.answers.specs.declared.Answer.{Answer}
+use Rattle.texts.specs.Choice.{cases, never, both_true}
+use Rattle.answers.specs.Told.{written}
 use Rattle.values.specs.declared.Setting.{Setting}
 use Rattle.values.specs.Values.{setting_of, fits, known_as, is_known}
 use Rattle.values.specs.Laws.Bits.{fit_bits}

@@ -1,8 +1,7 @@
 -- Each way through read settings, beside its definition.
 -- Assumes nothing.
-use Rattle.std.specs.Prelude.{ℕ, ◌≡◌, List, eqb, Float}
+use Rattle.std.specs.Prelude.{ℕ, ◌≡◌, List, Float}
 use Rattle.std.proofs.Common.{eq-eqb}
-use Rattle.texts.specs.Choice.{when◌then◌else◌}
 use Rattle.answers.specs.declared.Refusal.{Refusal}
 use Rattle.answers.specs.Told.{refusal_number, refused, no_settings}
 use Rattle.settings_spec.specs.Settings.{store_refusal}

@@ -1,15 +1,14 @@
 -- Each way through write setting, beside its definition.
 -- Assumes nothing.
-use Rattle.std.specs.Prelude.{ℕ, ◌≡◌, refl, ◌≢◌, true, false, not, ◌&&◌, List, eqb}
+use Rattle.std.specs.Prelude.{ℕ, ◌≡◌, ◌≢◌, true, false, List}
 use borrow.Author.Tests.{eq-eqb, ne_eqb}
-use Rattle.texts.specs.Choice.{when◌then◌else◌}
 use Rattle.records.specs.Fields.{put32}
 use Rattle.answers.specs.declared.Refusal.{Refusal}
 use Rattle.answers.specs.Told.{refusal_number, refused, accepted, written}
 use Rattle.values.specs.declared.Setting.{Setting}
 use Rattle.values.specs.Values.{fits, known_as, is_known, bits_of}
 use Rattle.settings_spec.specs.Settings.{record_of, value_at, all_fit, store_refusal}
-use Rattle.sound_settings.specs.Laws.Checked.{number_of, refused_test}
+use Rattle.sound_settings.specs.Laws.Checked.{refused_test}
 use Rattle.write_setting.specs.WriteSetting.{written_if, write_setting, settings_after}
 
 module _ (v : ℕ) (b name : List ℕ) (value : Setting) (c : List ℕ) where
