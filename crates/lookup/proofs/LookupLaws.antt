@@ -10,7 +10,7 @@ use Rattle.lookup.specs.Lookup.{lookup, looked_up}
 module _ (phones index dat store word tag : List ℕ) where
   -- lookup on a store's bytes is lookup on its entries
   pub lookup_on_entries : (out : List ℕ) → is_lexicon phones index ≡ true → is_sound store ≡ true → (is_word word && is_word tag) ≡ true
-      → (lookup out ≡ told_finding (find (entries store) phones index dat word (wanted_tag tag)) out)
-      × (looked_up out ≡ out_finding (find (entries store) phones index dat word (wanted_tag tag)) out)
+      → (lookup phones index dat store word tag out ≡ told_finding (find (entries store) phones index dat word (wanted_tag tag)) out)
+      × (looked_up phones index dat store word tag out ≡ out_finding (find (entries store) phones index dat word (wanted_tag tag)) out)
   unfolding lookup looked_up
   lookup_on_entries out f s w = (rw (f, s, w), rw (f, s, w))

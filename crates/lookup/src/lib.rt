@@ -1,4 +1,7 @@
 // lookup (01, Lookup).
+
+#![tactic(auto)]
+
 ghost use Rattle.std.specs.Prelude.{◌≡◌};
 ghost use Rattle.answers.specs.Told.{told_looked};
 ghost use Rattle.lookup.specs.Lookup.{lookup as lookup_of, looked_up};
