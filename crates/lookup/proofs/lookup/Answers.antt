@@ -5,9 +5,8 @@ use Rattle.compiled_spec.specs.Lexicon.{is_lexicon}
 use Rattle.store_spec.specs.Store.{is_sound}
 use Rattle.texts.specs.Text.{is_word, word_short}
 use Rattle.texts.specs.Choice.{both_true}
-use borrow.Author.Tests.{not-true, not-false}
 use mathlib.Core.Bool.{true, ◌&&◌}
-use mathlib.Core.Path.{◌≡◌, refl, sym, ◌∙◌}
+use mathlib.Core.Path.{◌≡◌, sym, ◌∙◌}
 use Rattle.lookup.proofs.lookup.Goals as goal
 
 pub returns-then-not-read_lexicon : goal.returns-then-not-read_lexicon
