@@ -1,4 +1,7 @@
 // accept entries (02, S-2, the second step): the store gets the spare's bytes, if nothing was accepted since it was filled.
+
+#![tactic(auto)]
+
 ghost use Rattle.std.specs.Prelude.{◌≡◌};
 ghost use Rattle.answers.specs.Told.{told_done};
 ghost use Rattle.accept_entries.specs.AcceptEntries.{accept_entries, store_after};

@@ -7,7 +7,7 @@ use Rattle.texts.specs.Choice.{cases}
 use Rattle.texts.specs.Text.{is_word}
 use Rattle.cells.specs.Cells.{ascii_phones}
 use Rattle.data.specs.Sections.{is_phone_table}
-use Rattle.store_spec.specs.Store.{entries, is_sound, count, largest}
+use Rattle.store_spec.specs.Store.{is_sound, count, largest}
 use Rattle.store_spec.specs.Adding.{added, is_full}
 use Rattle.store_spec.proofs.Sound.{sound}
 use Rattle.store_spec.proofs.Added.{room}

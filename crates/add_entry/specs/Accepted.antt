@@ -9,7 +9,6 @@ use Rattle.slots_spec.specs.Slot.{Entry}
 use Rattle.store_spec.specs.Store.{entries, is_sound, count, largest}
 use Rattle.store_spec.specs.Adding.{adding, is_full}
 use Rattle.store_spec.specs.Sound.{Sound}
-use Rattle.store_spec.proofs.Sound.{sound}
 use Rattle.lexicon_spec.specs.Adding.{new_entry, may_add_all}
 
 -- what an accepted entry leaves; the count rises, since that of a store in bytes is at most the largest

@@ -1,4 +1,7 @@
 // add entry (01, Lookup: Adding; the count of 02, S-2, and the exact entries of S-8).
+
+#![tactic(auto)]
+
 ghost use Rattle.std.specs.Prelude.{◌≡◌};
 ghost use Rattle.answers.specs.Told.{told_done};
 ghost use Rattle.add_entry.specs.AddEntry.{add_entry, store_after};

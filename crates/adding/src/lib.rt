@@ -1,4 +1,7 @@
 // Adding one pronunciation (01, Lookup: Adding; exact entries: 02, S-8).
+
+#![tactic(auto)]
+
 ghost use Rattle.std.specs.Prelude.{◌≡◌, true, false, not, ◌&&◌, map, ◌/◌, ◌≤◌, ◌<◌, length};
 ghost use Rattle.texts.specs.Text.{folded, is_word};
 ghost use Rattle.records.specs.Records.{record_at};

@@ -14,7 +14,7 @@ use Rattle.lines.specs.Lines.{content, field, is_empty, fields, after_field}
 use Rattle.lines.specs.Laws.Ascii.{ascii_content, ascii_field, ascii_after, ascii_stripped}
 use Rattle.slots_spec.specs.Slot.{Entry, Fits}
 use Rattle.slots_spec.proofs.Slot.{folded_small}
-use Rattle.store_spec.specs.Store.{entries, count, with_count, largest}
+use Rattle.store_spec.specs.Store.{with_count, largest}
 use Rattle.store_spec.specs.Adding.{is_full, added}
 use Rattle.store_spec.specs.Sound.{Sound}
 use Rattle.store_spec.specs.Result.{Added}

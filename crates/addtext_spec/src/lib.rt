@@ -1,4 +1,7 @@
 // A text of entries, stated: definitions and laws, no functions. `entryline` and `addtext` compute them.
+
+#![tactic(auto)]
+
 use answers::Refusal;
 
 // What comes of a line.

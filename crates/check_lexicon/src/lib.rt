@@ -1,4 +1,7 @@
 // check lexicon (01, Lookup): whether every compiled entry is whole and spoken, and words rise.
+
+#![tactic(auto)]
+
 ghost use Rattle.std.specs.Prelude.{◌≡◌, true, ◌+◌, ◌-◌, ◌<◌, ◌^◌};
 ghost use Rattle.texts.specs.Lists.{every, up_to};
 ghost use Rattle.data.specs.Sections.{is_phone_table};

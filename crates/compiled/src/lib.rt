@@ -1,4 +1,7 @@
 // The compiled entries (01, Lookup), read in place: one entry, and the search for a word.
+
+#![tactic(auto)]
+
 mod entries;
 mod search;
 mod sections;

@@ -1,4 +1,7 @@
 // One line of a text of entries (01, Lookup: Adding), judged and added.
+
+#![tactic(auto)]
+
 mod fields;
 mod line;
 

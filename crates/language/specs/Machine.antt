@@ -2,7 +2,7 @@
 -- Assumes nothing.
 use Rattle.std.specs.Prelude.{ℕ, suc, ◌+◌, ◌-◌, ◌*◌, ◌%◌, ◌/◌, ◌≤◌, ◌<◌, ◌≡◌, Bool, true, false, List, [], ◌∷◌, ◌++◌, map, reverse, eqb, length, get_or, take, drop}
 use Rattle.std.proofs.Common.{add-one, arith, sym, ap, ◌∙◌, length-drop, drop_of_length-le, drop-cons, take-suc}
-use Rattle.std.proofs.lemmas.List.{reverse_append, length-map}
+use Rattle.std.proofs.lemmas.List.{reverse-append, length-map}
 use borrow.Author.Tests.{eq-eqb, ne_eqb}
 use Rattle.texts.specs.Choice.{when◌then◌else◌}
 use Rattle.texts.specs.Lists.{some, get_d_map}
@@ -99,7 +99,7 @@ unfolding accepts
 accepts_backwards t state word left pos h =
     let n : left ≡ suc (left - 1) = omega arith in
     let e : take left word ≡ take (left - 1) word ++ (get_or word (left - 1) 0 ∷ []) = ap (λ (k : ℕ). take k word) n ∙ take-suc word (left - 1) 0 (omega arith) in
-    rw (e, reverse_append)
+    rw (e, reverse-append)
 
 pub accepts_end : (t : List ℕ) (state : ℕ) (word : List ℕ) (i : ℕ) → length word ≤ i → accepts t state (drop i word) ≡ false
 unfolding accepts

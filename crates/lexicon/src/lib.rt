@@ -1,4 +1,7 @@
 // Looking a word up (01, Lookup; the exact entries of 02, S-8): runtime entries, then the addenda, then the compiled entries.
+
+#![tactic(auto)]
+
 ghost use Rattle.std.specs.Prelude.{◌≡◌, true, false, map, ◌++◌, ◌*◌, ◌/◌, ◌≤◌, ◌<◌, length, get_or, drop};
 ghost use Rattle.texts.specs.Lists.{first};
 ghost use Rattle.texts.specs.Text.{folded};

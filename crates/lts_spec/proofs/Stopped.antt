@@ -1,7 +1,7 @@
 -- Theorems about `specs/Stopped.antt`: 02, S-5: what the place is where a word's letters stop. No "#" stands from there on, one stands just before it unless it is 0, and only the bytes from there on give phones.
 -- Assumes nothing.
 use Prim.Native.Nat.{ℕ, zero, suc, ◌+◌, ◌-◌, ◌≤◌, ◌<◌}
-use Rattle.std.proofs.Common.{arith, ◌∙◌, get_or-append-add}
+use Rattle.std.proofs.Common.{arith, ◌∙◌, sym, get_or-append-add}
 use Rattle.std.specs.Prelude.{◌≡◌, false, ◌&&◌, leb, length, get_or, take}
 use Rattle.std.proofs.Math.Path.{refl, ap}
 use mathlib.Core.List.{List, ◌++◌, map}
@@ -44,7 +44,7 @@ pub hash_at_lem : (word : List ℕ) (n : ℕ) → n < length word → is 35 (get
 hash_at_lem word n h = let e : n + 4 ≡ 4 + n = omega arith in rw (e, padded_at word n h) (hash_folded (get_or word n 0))
 
 module _ (phones index model : List ℕ) where
-  up_to_from : (word : List ℕ) (n : ℕ) → n ≤ length word → up_to phones index model (padded word) n ≡ letters_from (behind_last (is 35) (take n word)) (padded word) n
+  up_to_from : (word : List ℕ) (n : ℕ) → n ≤ length word → up_to phones index model (padded word) n ≡ letters_from phones index model (behind_last (is 35) (take n word)) (padded word) n
   unfolding up_to letters_from
   up_to_from word zero h = refl
   up_to_from word (suc n) h =
@@ -52,10 +52,13 @@ module _ (phones index model : List ℕ) where
       let w = (behind_take (is 35) word 0 n (omega arith)).within in
       cases (is 35 (get_or word n 0))
       (λ e. rw (hash_at_lem word n h, e, behind_stop (is 35) word 0 n h e, lt-leb (suc n) n (omega arith)))
-      (λ e. rw (hash_at_lem word n h, e, behind_turn (is 35) word 0 n h e, le-leb (behind_last (is 35) (take n word)) n w, ih))
+      (λ e.
+      let to : letters_from phones index model (behind_last (is 35) (take n word)) (padded word) (suc n) ≡ letters_from phones index model (behind_last (is 35) (take (suc n) word)) (padded word) (suc n) =
+      ap (λ (m : ℕ). letters_from phones index model m (padded word) (suc n)) (sym (behind_turn (is 35) word 0 n h e)) in
+      rw (hash_at_lem word n h, e) (rw (le-leb (behind_last (is 35) (take n word)) n w, ← ih) at to))
 
-  pub letters_from_lem : (word : List ℕ) → letters phones index model word ≡ letters_from (stopped word) (padded word) (length word)
+  pub letters_from_lem : (word : List ℕ) → letters phones index model word ≡ letters_from phones index model (stopped word) (padded word) (length word)
   unfolding letters stopped
   letters_from_lem word =
       up_to_from word (length word) (omega arith)
-      ∙ ap (λ (s : List ℕ). letters_from (behind_last (is 35) s) (padded word) (length word)) (take-length word)
+      ∙ ap (λ (s : List ℕ). letters_from phones index model (behind_last (is 35) s) (padded word) (length word)) (take-length word)

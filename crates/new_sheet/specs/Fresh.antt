@@ -2,7 +2,6 @@
 -- Assumes nothing.
 use Rattle.std.specs.Prelude.{ℕ, []}
 use Rattle.items_spec.specs.Item.{Item}
-use Rattle.utterance_spec.specs.Tree.{prev, follow}
 
 -- item 0 of a new sheet: all its fields are 0 but its version, and it is sound by itself
 abbrev pub head_of : ℕ → Item

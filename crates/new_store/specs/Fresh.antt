@@ -1,9 +1,8 @@
 -- A store as new store leaves it is sound, has no entries, and its count is 0.
 -- Assumes nothing.
-use Rattle.std.specs.Prelude.{ℕ, ◌+◌, ◌*◌, ◌%◌, ◌≤◌, ◌<◌, ◌≡◌, true, ◌&&◌, List, [], leb, eqb, length, drop}
-use Rattle.std.proofs.Common.{zero-add, arith, ap, ◌∙◌, leb-true}
+use Rattle.std.specs.Prelude.{ℕ, ◌+◌, ◌*◌, ◌≤◌, ◌<◌, ◌≡◌, true, List, [], length, drop}
+use Rattle.std.proofs.Common.{zero-add, arith, ap, ◌∙◌}
 use Rattle.std.proofs.Math.Path.{refl, sym}
-use Rattle.texts.specs.Choice.{both_true}
 use Rattle.texts.specs.Lists.{every}
 use Rattle.texts.specs.Text.{is}
 use Rattle.records.specs.Fields.{u16_at, u32_at, u64_at}

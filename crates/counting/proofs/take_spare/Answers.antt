@@ -1,6 +1,5 @@
 -- `counting::take_spare` meets its contract: a paste as long as the whole, then the count that was read, one higher. Assumes nothing.
 use Prim.Native.Nat.{ℕ, ◌+◌}
-use native.Mathlib.Omega.{arith}
 use mathlib.Core.Path.{◌≡◌, sym, ◌∙◌}
 use mathlib.Core.List.{List}
 use Rattle.records.specs.Records.{paste_whole}

@@ -4,7 +4,7 @@ use Prim.Native.Nat.{ℕ, zero, suc, ◌-◌, ◌≤◌, ◌<◌}
 use Rattle.std.proofs.Common.{arith, ap, ◌∙◌, subst, take-suc, ltb-true, ltb-false}
 use Rattle.std.specs.Prelude.{◌≡◌, Bool, true, false, List, [], ◌∷◌, reverse, length, get_or, take, ltb}
 use Rattle.std.proofs.Math.Path.{refl}
-use Rattle.std.proofs.lemmas.List.{reverse_append}
+use Rattle.std.proofs.lemmas.List.{reverse-append}
 use Rattle.std.proofs.Math.Seq.{length-take-le, take-length}
 use Rattle.texts.specs.Choice.{cases}
 use Rattle.texts.specs.Lists.{place, behind_last}
@@ -12,7 +12,7 @@ use Rattle.texts.specs.Lists.{place, behind_last}
 module _ {A : Type 0} (f : A → Bool) (l : List A) (d : A) where
   module _ (n : ℕ) (inside : n < length l) where
     last_of : reverse (take (suc n) l) ≡ get_or l n d ∷ reverse (take n l)
-    last_of = ap (λ (s : List A). reverse s) (take-suc l n d inside) ∙ reverse_append (take n l) (get_or l n d ∷ [])
+    last_of = ap (λ (s : List A). reverse s) (take-suc l n d inside) ∙ reverse-append (take n l) (get_or l n d ∷ [])
 
     -- one element more that passes
     pub behind_stop : f (get_or l n d) ≡ true → behind_last f (take (suc n) l) ≡ suc n

@@ -1,6 +1,6 @@
 -- Whatever source a word's phones come from, each has at most 15 bytes, all below 128.
 -- Assumes nothing.
-use Rattle.std.specs.Prelude.{ℕ, ◌-◌, ◌≡◌, refl, true, false, ◌&&◌, List, [], ◌∷◌, map, leb, ltb, length, get_or}
+use Rattle.std.specs.Prelude.{ℕ, ◌≡◌, refl, true, false, ◌&&◌, List, [], ◌∷◌, map, leb, ltb, length, get_or}
 use Rattle.std.proofs.Common.{arith, leb-true}
 use Rattle.std.proofs.Math.Option.{Option, none, some, or_else}
 use Rattle.texts.specs.Choice.{both_true, cases}

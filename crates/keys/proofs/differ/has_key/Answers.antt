@@ -1,0 +1,37 @@
+-- `keys::has_key` meets its contract: none of the entries passed has the key, so those left behind q decide. Assumes nothing.
+use native.Mathlib.Omega.{arith}
+use mathlib.Core.Path.{◌≡◌, refl, sym, ◌∙◌}
+use Rattle.store_spec.proofs.Laws.Turns.{has_turn, has_hit, has_stop, has_end}
+use Rattle.store_spec.specs.Store.{next, entry_at, same_key}
+use Rattle.keys.proofs.differ.has_key.Goals as goal
+
+pub loop-left-init : goal.loop-left-init
+loop-left-init c = (refl, omega arith)
+
+pub returns-then-q-eq0 : goal.returns-then-q-eq0
+returns-then-q-eq0 c =
+    let b = c.args.store.now in
+    sym (c.loop-left.invariant.0 ∙ has_stop (next b) (entry_at b) (same_key (entry_at b c.args.m)) c.loop-left.left c.loop-left.q (sym c.next-q.ensures.0 ∙ c.if-q-eq0.true))
+
+pub returns-then-is_wanted : goal.returns-then-is_wanted
+unfolding same_key entry_at
+returns-then-is_wanted c =
+    let b = c.args.store.now in
+    let m = c.args.m in
+    let q = c.next-q.result in
+    let k : c.is_wanted.result ≡ same_key (entry_at b m) (entry_at b q) = c.is_wanted.ensures ∙ rw (c.is_exact.ensures, c.word.ensures, c.tag.ensures, c.slot-wanted.ensures, c.slot.ensures) in
+    sym (c.loop-left.invariant.0 ∙ has_hit (next b) (entry_at b) (same_key (entry_at b m)) c.loop-left.left c.loop-left.q q (omega arith) c.next-q.ensures.0 c.if-q-eq0.false (sym k ∙ c.if-is_wanted.true))
+
+pub loop-left-preserved : goal.loop-left-preserved
+unfolding same_key entry_at
+loop-left-preserved c =
+    let b = c.args.store.now in
+    let m = c.args.m in
+    let q = c.next-q.result in
+    let k : c.is_wanted.result ≡ same_key (entry_at b m) (entry_at b q) = c.is_wanted.ensures ∙ rw (c.is_exact.ensures, c.word.ensures, c.tag.ensures, c.slot-wanted.ensures, c.slot.ensures) in
+    (c.loop-left.invariant.0 ∙ has_turn (next b) (entry_at b) (same_key (entry_at b m)) c.loop-left.left c.loop-left.q q (omega arith) c.next-q.ensures.0 c.if-q-eq0.false (sym k ∙ c.if-is_wanted.false), c.next-q.ensures.1)
+
+pub returns : goal.returns
+returns c =
+    let b = c.args.store.now in
+    sym (c.loop-left.invariant.0 ∙ has_end (next b) (entry_at b) (same_key (entry_at b c.args.m)) c.loop-left.left c.loop-left.q (omega arith))

@@ -1,0 +1,7 @@
+-- `lts::window` meets its contract: two parts of four bytes, one behind the other. Assumes nothing.
+use Rattle.lts.proofs.Fill.{parts}
+use Rattle.lts.proofs.window.Goals as goal
+
+pub returns : goal.returns
+returns c =
+    let a = c.args in parts a.text.now a.k c.copy_in.new.dst c.copy_in-2.new.dst c.requires.0 c.requires.1 c.copy_in.ensures c.copy_in-2.ensures
