@@ -1,7 +1,7 @@
 // Lines that stand for many calls over settings: each byte of a store with each other value in turn.
 ghost use Rattle.std.specs.Prelude.{◌<◌, ◌≤◌, length};
 
-use crate::settings;
+use crate::calls;
 use answers::Settings;
 use caseline::Given;
 
@@ -29,8 +29,8 @@ fn are_same(a: Settings, b: Settings) -> bool {
 fn read_effect(room: &[u8], given: Given, store: &[u8]) -> u32
     ensures { result ≤ 1 }
 {
-    let plain = settings::shown(room, given, caseline::argument(room, given, 0));
-    if are_same(settings::shown(room, given, store), plain) {
+    let plain = calls::shown(room, given, caseline::argument(room, given, 0));
+    if are_same(calls::shown(room, given, store), plain) {
         return 0;
     }
     1
@@ -58,7 +58,7 @@ fn write_effect(room: &[u8], given: Given, store: &mut [u8], k: usize, b: u8) ->
     requires { k < length store.old }
     ensures { result ≤ 1 }
 {
-    if settings::written(room, given, store).refusal != 0 {
+    if calls::written(room, given, store).refusal != 0 {
         return 1;
     }
     let after = caseline::argument(room, given, 5);
@@ -137,7 +137,7 @@ pub fn run_damage_read_settings(line: &[u8], regs: &[u8], room: &mut [u8], out: 
     if !given.ok {
         return false;
     }
-    if !settings::are_read_words(room, given) {
+    if !calls::are_read_words(room, given) {
         return false;
     }
     let n = caseline::load(out, caseline::argument(room, given, 0));
@@ -150,7 +150,7 @@ pub fn run_damage_write_setting(line: &[u8], regs: &[u8], room: &mut [u8], out: 
     if !given.ok {
         return false;
     }
-    if !settings::are_write_words(room, given) {
+    if !calls::are_write_words(room, given) {
         return false;
     }
     let n = caseline::load(out, caseline::argument(room, given, 0));
