@@ -1,4 +1,7 @@
 // Saying words on a sheet (01, Store and sheet).
+
+#![tactic(auto)]
+
 use answers::Refusal;
 
 mod cutting;

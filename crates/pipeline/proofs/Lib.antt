@@ -1,0 +1,2 @@
+-- What the answers share. Assumes nothing.
+pub mod Phones
