@@ -30,7 +30,7 @@ module _ (table store spare text : List ℕ) where
       (λ t₂. absurd (omega (arith, (rw (t₁, t₂) at h)))))
       (λ t₁. absurd (omega (arith, (rw t₁ at h))))
 
-  pub ends : Ends
+  pub ends : Ends table store spare text
   unfolding add_entries store_after spare_after spare_filled
   ends =
       cases (eqb (barred table store spare text) 0)

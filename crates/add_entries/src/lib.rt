@@ -1,4 +1,7 @@
 // add text (01, Lookup: Adding; both steps of 02, S-2, together): each entry line of a text added in turn, all of them or none.
+
+#![tactic(auto)]
+
 ghost use Rattle.std.specs.Prelude.{◌≡◌};
 ghost use Rattle.answers.specs.Told.{told_lines};
 ghost use Rattle.add_entries.specs.AddEntries.{add_entries, store_after, spare_after};

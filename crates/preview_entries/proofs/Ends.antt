@@ -27,7 +27,7 @@ module _ (table store spare text : List ℕ) where
       (λ t₂. absurd (omega (arith, (rw (t₁, t₂) at h)))))
       (λ t₁. absurd (omega (arith, (rw t₁ at h))))
 
-  pub ends : Ends
+  pub ends : Ends table store spare text
   unfolding preview_entries spare_after spare_filled told_filled
   ends =
       cases (eqb (barred table store spare text) 0)

@@ -1,4 +1,7 @@
 // preview entries (02, S-2, the first step): fills the spare with what a text would make of the store, and tells what would change.
+
+#![tactic(auto)]
+
 ghost use Rattle.std.specs.Prelude.{◌≡◌};
 ghost use Rattle.answers.specs.Told.{told_previewed};
 ghost use Rattle.preview_entries.specs.PreviewEntries.{preview_entries, spare_after};
