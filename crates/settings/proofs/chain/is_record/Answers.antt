@@ -25,11 +25,10 @@ unfolding is_record
 returns-in-1-to-2 c =
     let if1 = c.if-settings-i in
     let byte_at = c.byte_at in
-    let if2 = c.if-byte_at-gt15 in
     let byte-at2 = c.byte_at-2 in
     let b = c.args.settings.now in
     let i = c.args.i in
-    let h : get_or b (32 * i + 2) 0 ≤ 15 = rw (← byte_at.ensures) if2.false in
+    let h : get_or b (32 * i + 2) 0 ≤ 15 = omega (arith, byte_at.ensures) in
     let x = byte-at2.result in
     let e = byte-at2.ensures in
     rw (lt-ltb i (length b / 32) if1.false, le-leb (get_or b (32 * i + 2) 0) 15 h, ← e) (cases (eqb x 1) (λ d. rw d) (λ d. let n = eqb-false x 1 d in rw (d, eq-eqb x 2 (omega arith))))
@@ -39,10 +38,9 @@ unfolding is_record
 returns-in_default c =
     let if1 = c.if-settings-i in
     let byte_at = c.byte_at in
-    let if2 = c.if-byte_at-gt15 in
     let b = c.args.settings.now in
     let i = c.args.i in
-    let h : get_or b (32 * i + 2) 0 ≤ 15 = rw (← byte_at.ensures) if2.false in
+    let h : get_or b (32 * i + 2) 0 ≤ 15 = omega (arith, byte_at.ensures) in
     let x = c.byte_at-2.result in
     let e = c.byte_at-2.ensures in
     rw (lt-ltb i (length b / 32) if1.false, le-leb (get_or b (32 * i + 2) 0) 15 h, ← e, ne_eqb x 1 (omega arith), ne_eqb x 2 (omega arith))
@@ -52,11 +50,10 @@ unfolding is_record
 returns-in_default-2 c =
     let if1 = c.if-settings-i in
     let byte_at = c.byte_at in
-    let if2 = c.if-byte_at-gt15 in
     let byte-at2 = c.byte_at-2 in
     let b = c.args.settings.now in
     let i = c.args.i in
-    let h : get_or b (32 * i + 2) 0 ≤ 15 = rw (← byte_at.ensures) if2.false in
+    let h : get_or b (32 * i + 2) 0 ≤ 15 = omega (arith, byte_at.ensures) in
     let x = byte-at2.result in
     let e = byte-at2.ensures in
     rw (lt-ltb i (length b / 32) if1.false, le-leb (get_or b (32 * i + 2) 0) 15 h, ← e, ne_eqb x 1 (omega arith), ne_eqb x 2 (omega arith))
