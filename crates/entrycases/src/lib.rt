@@ -1,4 +1,7 @@
 // The calls of the lexicon and the store, run from lines of cases.
+
+#![tactic(auto)]
+
 mod entries;
 mod many;
 

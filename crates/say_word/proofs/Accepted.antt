@@ -26,7 +26,7 @@ use Rattle.say_word.specs.SayWord.{say_word, sheet_after}
 use Rattle.say_word.specs.Accepted.{Passed, Taken}
 
 module _ (c : Sections) (store sheet word tag : List ℕ) where
-  passed : (say_word c store sheet word tag).refusal ≡ 0 → Passed
+  passed : (say_word c store sheet word tag).refusal ≡ 0 → Passed c store sheet word tag
   unfolding say_word
   passed h =
       let lexicon = is_lexicon c.lex_phones c.lex_index in
@@ -43,7 +43,7 @@ module _ (c : Sections) (store sheet word tag : List ℕ) where
       (λ t₁. absurd (omega (arith, (rw t₁ at h))))
 
   -- by what the word came to
-  came_to : (say_word c store sheet word tag).refusal ≡ 0 → Passed → (p : Spoken) → pronounced c (entries store) word tag ≡ p → Taken
+  came_to : (say_word c store sheet word tag).refusal ≡ 0 → Passed c store sheet word tag → (p : Spoken) → pronounced c (entries store) word tag ≡ p → Taken c store sheet word tag
   came_to h t (barred n) e =
       let real = subst Real e (pronounced_real c (entries store) word tag) in
       let z : say_word c store sheet word tag ≡ on_spoken sheet word (barred n) = t.answer ∙ ap (on_spoken sheet word) e in
@@ -71,5 +71,5 @@ module _ (c : Sections) (store sheet word tag : List ℕ) where
         reads = ap page left ∙ append_reads sheet w s may room;
       })
 
-  pub say_law : (say_word c store sheet word tag).refusal ≡ 0 → Taken
+  pub say_law : (say_word c store sheet word tag).refusal ≡ 0 → Taken c store sheet word tag
   say_law h = came_to h (passed h) (pronounced c (entries store) word tag) refl

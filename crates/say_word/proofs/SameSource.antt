@@ -14,7 +14,7 @@ use Rattle.answers.specs.declared.Answer.{Answer}
 use Rattle.answers.specs.declared.Source.{Source}
 use Rattle.answers.specs.declared.Source.TheVariants.{Runtime, Addenda, Compiled}
 use Rattle.answers.specs.Told.{source_number}
-use Rattle.pipeline_spec.specs.Pronounced.{Sections, phones, on_finding, pronounced, said}
+use Rattle.pipeline_spec.specs.Pronounced.{Sections, on_finding, pronounced, said}
 use Rattle.say_word.specs.SayWord.{say_word}
 use Rattle.say_word.proofs.Accepted.{say_law}
 use Rattle.say_word.specs.SameSource.{source_by, Sourced, HasPhones, source_in}

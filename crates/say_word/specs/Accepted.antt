@@ -9,7 +9,6 @@ use Rattle.compiled_spec.specs.Lexicon.{is_lexicon}
 use Rattle.utterance_spec.specs.Tree.{put_last}
 use Rattle.utterance_spec.specs.Sheet.{version, page, is_sound as is_sheet}
 use Rattle.utterance_spec.specs.Sound.{Sound}
-use Rattle.utterance_spec.proofs.Decided.{sound}
 use Rattle.pipeline_spec.specs.Pronounced.{Sections, phones as comes, pronounced, said}
 use Rattle.pipeline_spec.specs.Placing.{on_spoken}
 use Rattle.say_word.specs.SayWord.{say_word, sheet_after}

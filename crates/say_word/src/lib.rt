@@ -1,4 +1,7 @@
 // say word (01, Store and sheet): a word pronounced and put last on the sheet.
+
+#![tactic(auto)]
+
 ghost use Rattle.std.specs.Prelude.{◌≡◌};
 ghost use Rattle.answers.specs.Told.{told_said};
 ghost use Rattle.pipeline_spec.specs.Pronounced.{tables};

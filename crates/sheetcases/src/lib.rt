@@ -1,4 +1,7 @@
 // The calls of the sheet, run from lines of cases.
+
+#![tactic(auto)]
+
 mod many_sheets;
 mod sheets;
 

@@ -28,6 +28,7 @@ fn is_placed(sheet: &[u8], i: u16) -> bool
 }
 
 // Whether item x, behind phone q, is tied to it both ways if it is a phone.
+#[tactic(auto, unfolding(utterance_spec::specs::Laws::Turns::is_tied))]
 fn is_tied(sheet: &[u8], q: u16, x: u16) -> bool
     requires { (q < items sheet.now) × (x < items sheet.now) }
     ensures { result ≡ is_tied (at sheet.now) q x }

@@ -1,4 +1,7 @@
 // The calls on words and phones, run from lines of cases.
+
+#![tactic(auto)]
+
 use caseline::Given;
 
 // predict with its arguments read and its output loaded

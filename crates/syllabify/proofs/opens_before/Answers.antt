@@ -23,14 +23,8 @@ returns-then-v-eq1 c =
     let g = ap (λ (x : List ℕ). same x (bytes "ng")) (sym c.phone.ensures) ∙ sym c.same.ensures ∙ c.if-same.false in
     rw (ne_eqb v 0 c.if-v-eq0.false, g, eq-eqb v 1 c.if-v-eq1.true)
 
-pub returns-then-v-le3 : goal.returns-then-v-le3
-returns-then-v-le3 c =
-    let v = c.args.v in
-    let g = ap (λ (x : List ℕ). same x (bytes "ng")) (sym c.phone.ensures) ∙ sym c.same.ensures ∙ c.if-same.false in
-    rw (ne_eqb v 0 c.if-v-eq0.false, g, ne_eqb v 1 c.if-v-eq1.false, le-leb v 3 c.if-v-le3.true) c.is_cluster.ensures
-
 pub returns : goal.returns
 returns c =
     let v = c.args.v in
     let g = ap (λ (x : List ℕ). same x (bytes "ng")) (sym c.phone.ensures) ∙ sym c.same.ensures ∙ c.if-same.false in
-    rw (ne_eqb v 0 c.if-v-eq0.false, g, ne_eqb v 1 c.if-v-eq1.false, lt-leb v 3 c.if-v-le3.false)
+    rw (ne_eqb v 0 c.if-v-eq0.false, g, ne_eqb v 1 c.if-v-eq1.false, lt-leb v 3 (omega arith))

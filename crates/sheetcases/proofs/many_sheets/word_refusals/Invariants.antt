@@ -1,0 +1,13 @@
+-- `sheetcases::many_sheets::word_refusals` is safe and ends: each call leaves the sheet's length. Assumes nothing.
+use Prim.Native.Nat.{◌-◌}
+use mathlib.Core.Path.{◌≡◌}
+use lib.ListN.{length}
+use Rattle.sheetcases.proofs.many_sheets.word_refusals.Given as goal
+
+abbrev pub invariant-loop-k : goal.invariant-loop-k
+invariant-loop-k l =
+    length l.sheet ≡ length l.initial.sheet
+
+abbrev pub decreases-loop-k : goal.decreases-loop-k
+decreases-loop-k l =
+    length l.sheet - l.k
