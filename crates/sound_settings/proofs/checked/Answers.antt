@@ -47,14 +47,11 @@ returns-then-not-is_sound c =
     let if1 = c.if-not-is_length in
     let is-version = c.is_version in
     let if2 = c.if-not-is_version in
-    let u16-at = c.u16_at in
-    let is-version2 = c.is_version-2 in
-    let if3 = c.if-not-is_version-2 in
     let b = c.args.settings.now in
     let v = c.args.version in
     let l : is_length (length b) ≡ true = sym is-length.ensures ∙ if1.false in
     let r : is_version v ≡ true = sym is-version.ensures ∙ if2.false in
-    let q : is_version (u16_at b 0) ≡ true = sym (is-version2.ensures ∙ ap is_version u16-at.ensures) ∙ if3.false in
+    let q : is_version (u16_at b 0) ≡ true = cc in
     let s : is_sound b ≡ false = sym c.is_sound.ensures ∙ c.if-not-is_sound.true in
     rw (l, r, q, s)
 
@@ -65,13 +62,10 @@ returns c =
     let if1 = c.if-not-is_length in
     let is-version = c.is_version in
     let if2 = c.if-not-is_version in
-    let u16-at = c.u16_at in
-    let is-version2 = c.is_version-2 in
-    let if3 = c.if-not-is_version-2 in
     let b = c.args.settings.now in
     let v = c.args.version in
     let l : is_length (length b) ≡ true = sym is-length.ensures ∙ if1.false in
     let r : is_version v ≡ true = sym is-version.ensures ∙ if2.false in
-    let q : is_version (u16_at b 0) ≡ true = sym (is-version2.ensures ∙ ap is_version u16-at.ensures) ∙ if3.false in
+    let q : is_version (u16_at b 0) ≡ true = cc in
     let s : is_sound b ≡ true = sym c.is_sound.ensures ∙ c.if-not-is_sound.false in
     rw (l, r, q, s)
