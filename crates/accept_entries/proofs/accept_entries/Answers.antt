@@ -76,7 +76,7 @@ returns-then-seen-largest c =
     let is_store : is_sound c.args.store.now ≡ true =
     sym c.is_sound.ensures ∙ c.if-not-is_sound.false in
     let seen : count c.args.spare.now ≡ count c.args.store.now =
-    sym c.count-seen.ensures ∙ c.if-seen-count.false ∙ c.count.ensures in
+    omega (arith, c.count-seen.ensures, c.count.ensures) in
     let q = seen in
     let e = eq-eqb (count c.args.spare.now) (count c.args.store.now) q in
     let t = eq-eqb (count c.args.store.now) largest (sym q ∙ sym c.count-seen.ensures ∙ c.if-seen-largest.true ∙ c.largest.ensures) in
@@ -110,7 +110,7 @@ returns c =
     let is_store : is_sound c.args.store.now ≡ true =
     sym c.is_sound.ensures ∙ c.if-not-is_sound.false in
     let seen : count c.args.spare.now ≡ count c.args.store.now =
-    sym c.count-seen.ensures ∙ c.if-seen-count.false ∙ c.count.ensures in
+    omega (arith, c.count-seen.ensures, c.count.ensures) in
     let q = seen in
     let e = eq-eqb (count c.args.spare.now) (count c.args.store.now) q in
     let t = ne_eqb (count c.args.store.now) largest (λ z. below (q ∙ z)) in

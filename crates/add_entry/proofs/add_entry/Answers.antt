@@ -15,6 +15,7 @@ use Rattle.answers.specs.Told.{refused, accepted}
 use borrow.Author.Tests.{not-true, not-false, le-ltb, lt-ltb, eq-eqb, ne_eqb}
 use lib.ListN.{length}
 use lib.Dec.{eqb}
+use native.Mathlib.Omega.{arith}
 use mathlib.Core.List.{List}
 use mathlib.Core.Bool.{Bool, true, false, ◌&&◌}
 use mathlib.Core.Path.{◌≡◌, sym, ap, ◌∙◌}
@@ -134,7 +135,7 @@ add-requires c =
     let short : length c.args.word.now ≤ 47 =
     let a = c.args in
     word_short a.word.now (both_true (is_word a.word.now) (is_word a.tag.now) (both_true (is_word a.word.now && is_word a.tag.now) (ascii_phones a.phones.now) (has_texts)).0).0 in
-    (is_store, short, c.if-phones-gt24.false)
+    (is_store, short, omega arith)
 
 pub set_count-requires : goal.set_count-requires
 set_count-requires c =
@@ -173,7 +174,7 @@ returns-then-add c =
       rises = may_rise;
       texts = has_texts;
       known = may_be;
-      few = le-ltb 24 (length c.args.phones.now / 16) c.if-phones-gt24.false;
+      few = le-ltb 24 (length c.args.phones.now / 16) (omega arith);
     } in
     let a = c.args in
     let e = entry_is in
@@ -204,7 +205,7 @@ returns c =
       rises = may_rise;
       texts = has_texts;
       known = may_be;
-      few = le-ltb 24 (length c.args.phones.now / 16) c.if-phones-gt24.false;
+      few = le-ltb 24 (length c.args.phones.now / 16) (omega arith);
     } in
     let a = c.args in
     let e = entry_is in
