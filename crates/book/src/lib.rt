@@ -1,4 +1,4 @@
-// No code: specs/Every.antt has the claim about every list of calls, as one theorem about the definitions
+// No code: proofs/Every.antt has the claim about every list of calls, as one theorem about the definitions
 // that the calls' contracts cite.
 
 #![tactic(auto)]
