@@ -1,15 +1,15 @@
 -- Bits of whole numbers and floats, beside what the machine does with them; and a value that is read and written again has its four bytes.
 -- Assumes nothing.
-use Rattle.std.specs.Prelude.{ℕ, zero, suc, ◌-◌, ◌%◌, ◌<◌, ◌≤◌, ◌≡◌, refl, true, false, not, T, ltb, eqb, ℤ, pos, negsuc, nat_abs, ◌-ℤ◌, Float}
-use Rattle.std.proofs.Common.{arith, sym, ap, ◌∙◌, subst, Fits, SFits, to_z, of_z, lt-ltb, le-ltb, ltb-false}
-use Rattle.std.specs.Int.Signed.{lt_z, non_neg}
+use Rattle.std.specs.Prelude.{ℕ, zero, suc, ◌+◌, ◌-◌, ◌%◌, ◌<◌, ◌≤◌, ◌≡◌, refl, Bool, true, false, not, T, ltb, eqb, ℤ, pos, negsuc, nat_abs, ◌-ℤ◌, Float}
+use Rattle.std.proofs.Common.{arith, sym, ap, ◌∙◌, subst, Fits, SFits, to_z, of_z, lt-ltb, le-ltb, ltb-true, ltb-false, eq-eqb, ne_eqb}
+use Rattle.std.specs.Int.Signed.{lt_z, le_z, non_neg}
 use Rattle.std.specs.Float.{nan, inf, fin, binary32}
 use Rattle.std.specs.Float.Ieee.{of_bits, to_bits, is_nan, nan_bits, ne, div, le}
 use Rattle.std.specs.Float.Ieee.Bits.{to_bits-of_bits, nan_bits_is, nan_bits_above}
 use Rattle.std.specs.Int.{w32}
 use Rattle.std.proofs.lemmas.Int.{to_z_pos, to_z-of_z}
 use Rattle.texts.specs.Choice.{cases, never}
-use Rattle.values.specs.declared.Setting.TheVariants.{Real}
+use Rattle.values.specs.declared.Setting.TheVariants.{Whole, Real}
 use Rattle.values.specs.declared.Known.{Known}
 use Rattle.values.specs.declared.Known.TheVariants.{Pitch, Stretch, Level, Other}
 use Rattle.values.specs.Values.{whole_of, bits_of_whole, setting_of, bits_of, is_stretch, fits}
