@@ -5,7 +5,7 @@ usage: tools/to_proofs.py CRATE ..   at the top of the repository
 
 A must-fail edit of a definition is tried only if specs/ can still be read with it, so what rests on the definition stands in proofs/. What
 moves is what has no mark `abbrev` or `unfoldable` and is no type, unless a definition names it. Imports of all crates follow.
-docs/MOVED.txt gets each statement that moved.
+docs/MOVED.txt gets each statement that moved; the list stands at the end of docs/PORT.md.
 """
 
 import glob

@@ -1,26 +1,27 @@
 -- Theorems about `specs/WrongSheets.antt`: Sheets that tell no book: reading or a chain of phones does not come to 0 within items 1 to used, though walked for `used` steps they would pass;
--- a word has no source (02, S-6), or the sheet no known version (02, S-9). With the one byte put right each tells a book.
+-- a word has no source (02, S-6), the sheet no known version, or a syllable a stress that its version has not (02, S-9). With the one byte put right each tells a book.
 -- Assumes nothing.
 use Rattle.std.specs.Prelude.{ℕ, ◌≡◌, refl, ◌≢◌, true, List, [], ◌∷◌, reverse, length}
 use Rattle.std.proofs.Common.{arith, sym, ap, ◌∙◌, subst}
 use Rattle.texts.specs.Choice.{never}
-use Rattle.texts.specs.Lists.{every}
-use Rattle.texts.specs.Text.{is, low, ascii, is_word}
+use Rattle.texts.specs.Lists.{every, some as any_of, place}
+use Rattle.texts.specs.Text.{is, low, ascii, is_word, same}
 use Rattle.records.specs.Fields.{u16_at}
 use Rattle.records.specs.Records.{record_at}
 use Rattle.records.specs.Chain.{All, Linked, chain}
 use Rattle.records.specs.Counted.{Within}
-use Rattle.versions.specs.Versions.{is_sheet_version}
-use Rattle.items_spec.specs.Item.{item_of, is_clean, is_source, is_word_item, is_head_item, fits, is_item, is_head}
+use Rattle.versions.specs.Versions.{is_sheet_version, digits, is_stress}
+use Rattle.items_spec.specs.Item.{item, item_of, is_clean, is_source, is_word_item, is_syllable_item, is_phone_item, is_head_item, fits, is_item, is_head}
+use Rattle.phoneset.specs.Phones.{phones, row_of, is_vowel}
 use Rattle.syllabify.specs.Syllables.{vowels}
 use Rattle.utterance_spec.specs.Tree.{Word, Page, WordAt, words_at, phones_at, items_at, sibling, follow, prev, places}
-use Rattle.utterance_spec.specs.Sheet.{at, used, reading, page, is_sheet_length, after, beyond, is_parent, is_sibling, is_sung, is_chained, is_placed, walks, order, is_sound}
+use Rattle.utterance_spec.specs.Sheet.{at, used, reading, page, is_sheet_length, after, beyond, after_phone, after_syllable, is_parent, is_sibling, is_sung, is_chained, is_placed, walks, order, is_sound}
 use Rattle.utterance_spec.specs.Sound.{Placed}
-use Rattle.utterance_spec.proofs.Decided.{sound}
+use Rattle.utterance_spec.proofs.Decided.{sound, is_sound_lem}
 use Rattle.book.specs.WellCut.{WellCut}
 use Rattle.book.specs.Claim.{Tells}
 use Rattle.book.proofs.Claim.{tells, one_telling}
-use Rattle.book.specs.WrongSheets.{no_words, one_word, comma, page_one}
+use Rattle.book.specs.WrongSheets.{no_words, one_word, comma, page_one, one_syllable, secondary}
 
 -- where no item is used, none is met
 none_met : (b : List ℕ) (ws : List WordAt) → used b ≡ 0 → All (Within (used b)) (items_at ws) → ws ≡ []
@@ -99,6 +100,11 @@ comma_cut : (source : ℕ) → WellCut (comma source)
 unfolding vowels
 comma_cut source = record { vowelled = λ p v. absurd (omega (arith, v)); vowelless = λ p v l. absurd (omega (arith, l)) }
 
+-- a syllable with one vowel is
+secondary_cut : WellCut secondary
+unfolding vowels is_vowel row_of phones any_of same every place
+secondary_cut = record { vowelled = λ p v. refl; vowelless = λ p v l. absurd (omega (arith, v)) }
+
 -- the source of the first word, 0 if there is none
 first_source : List Word → ℕ
 first_source [] = 0
@@ -124,6 +130,11 @@ other_version t =
     let e : ◌≡◌ {A = ℕ} 2 1 = ap (λ (p : Page). p.version) t.reads in
     absurd (omega (arith, e))
 
+-- a syllable has the stress "2", which version 1 has not
+pub secondary_in_one : (said : Page) → Tells (one_syllable 1) said → ⊥
+unfolding item is_sound is_sheet_length is_sheet_version is_stress digits any_of is_head is_head_item is_item is_source is_word_item is_syllable_item is_phone_item is_word is_clean is_placed is_parent is_sibling is_sung is_chained walks order after beyond after_phone after_syllable chain fits at item_of record_at u16_at ascii low every is
+secondary_in_one said t = never (is_sound (one_syllable 1)) (is_sound_lem (one_syllable 1) t.sound) refl
+
 -- with that byte put right each tells a book
 pub no_words_lem : Tells (no_words 1 0 0 0) (page_one [])
 unfolding is_sound is_sheet_length is_sheet_version is_head is_head_item is_clean is_parent is_chained walks order after beyond page reading places chain at item_of record_at u16_at every is
@@ -132,3 +143,7 @@ no_words_lem = tells (no_words 1 0 0 0) (page_one []) (sound (no_words 1 0 0 0) 
 pub one_word_lem : Tells (one_word 0 2) (page_one (comma 2 ∷ []))
 unfolding is_sound is_sheet_length is_sheet_version is_head is_head_item is_item is_source is_word_item is_word is_clean is_placed is_parent is_sibling is_sung is_chained walks order after beyond page reading places chain sibling fits at item_of record_at u16_at ascii low every is
 one_word_lem = tells (one_word 0 2) (page_one (comma 2 ∷ [])) (sound (one_word 0 2) refl) refl (comma_cut 2, tt)
+
+pub one_syllable_told : Tells (one_syllable 2) (record { version = 2; state = 0; words = secondary ∷ [] })
+unfolding item is_sound is_sheet_length is_sheet_version is_stress digits any_of is_head is_head_item is_item is_source is_word_item is_syllable_item is_phone_item is_word is_clean is_placed is_parent is_sibling is_sung is_chained walks order after beyond after_phone after_syllable page reading places chain sibling fits at item_of record_at u16_at ascii low every is
+one_syllable_told = tells (one_syllable 2) (record { version = 2; state = 0; words = secondary ∷ [] }) (sound (one_syllable 2) refl) refl (secondary_cut, tt)
