@@ -1,5 +1,6 @@
 -- Laws that only proofs use.
 pub mod Keys
+pub mod Library
 pub mod Same
 pub mod Largest
 pub mod Folding

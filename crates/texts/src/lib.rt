@@ -12,14 +12,14 @@ ghost use Rattle.texts.specs.Laws.Mixed.{mixed as mixed_of};
 pub fn wide(b: u8) -> usize
     ensures { (result ≡ b) × (result < 256) }
 {
-    b as usize
+    usize::from(b)
 }
 
 // Both of two tests.
 pub fn both(a: bool, b: bool) -> bool
     ensures { result ≡ (a && b) }
 {
-    if a { b } else { false }
+    a && b
 }
 
 // 1 for A to Z and 0 for every other byte, without a branch (02, S-3): counted from A on, round 256, A to Z are 0 to 25.
@@ -37,31 +37,18 @@ pub fn fold(b: u8) -> u8
     b + 32 * capital(b)
 }
 
+#[tactic(auto, unfolding(crate::specs::Text::blank))]
 pub fn is_blank(b: u8) -> bool
     ensures { result ≡ blank b }
 {
-    match b {
-        9..=13 => true,
-        32 => true,
-        _ => false,
-    }
+    matches!(b, 9..=13 | 32)
 }
 
 // Whether two strings have the same bytes.
 pub fn same(a: &[u8], b: &[u8]) -> bool
     ensures { result ≡ equal a.now b.now }
 {
-    if a.len() != b.len() {
-        return false;
-    }
-    let mut i = 0;
-    while i < a.len() {
-        if a[i] != b[i] {
-            return false;
-        }
-        i += 1;
-    }
-    true
+    a == b
 }
 
 // Whether a stands before b in bytewise order.
@@ -85,21 +72,15 @@ pub fn smaller(a: &[u8], b: &[u8]) -> bool
 pub fn find(s: &[u8], b: u8) -> usize
     ensures { result ≡ place (is b) s.now }
 {
-    let mut i = 0;
-    while i < s.len() {
-        if s[i] == b {
-            return i;
-        }
-        i += 1;
-    }
-    i
+    s.iter().position(|&x| x == b).unwrap_or(s.len())
 }
 
 // The larger of two bytes.
+#[tactic(auto, unfolding(crate::specs::Laws::Largest::larger))]
 fn larger(a: u8, b: u8) -> u8
     ensures { result ≡ larger_of a b }
 {
-    if a < b { b } else { a }
+    a.max(b)
 }
 
 // The largest byte, 0 of none. Without an early return the loop reads many bytes at once.
@@ -107,10 +88,8 @@ pub fn largest(s: &[u8]) -> u8
     ensures { result ≡ largest_of s.now }
 {
     let mut m = 0u8;
-    let mut i = 0;
-    while i < s.len() {
-        m = larger(m, s[i]);
-        i += 1;
+    for &b in s {
+        m = larger(m, b);
     }
     m
 }
@@ -119,14 +98,7 @@ pub fn largest(s: &[u8]) -> u8
 fn are_low(s: &[u8]) -> bool
     ensures { result ≡ ascii s.now }
 {
-    let mut i = 0;
-    while i < s.len() {
-        if 128 <= s[i] {
-            return false;
-        }
-        i += 1;
-    }
-    true
+    s.iter().all(|&x| x < 128)
 }
 
 // Whether every byte is below 128. A short text is told faster one by one, a long one by its largest byte.
@@ -140,36 +112,26 @@ pub fn is_ascii(s: &[u8]) -> bool
 }
 
 // Whether s may be a word or a tag.
+#[tactic(auto, unfolding(crate::specs::Text::is_word))]
 pub fn is_word(s: &[u8]) -> bool
     ensures { result ≡ is_word s.now }
 {
-    if 47 < s.len() {
-        return false;
-    }
-    is_ascii(s)
+    s.len() <= 47 && is_ascii(s)
 }
 
 // The first byte of a tag, "0" where there is none.
 pub fn first_or_any(tag: &[u8]) -> u8
     ensures { result ≡ get_or tag.now 0 48 }
 {
-    if tag.len() == 0 { 48 } else { tag[0] }
+    tag.first().copied().unwrap_or(48)
 }
 
 // Whether one tag is another; or, where "0" is any tag, one of them is "0".
+#[tactic(auto, unfolding(crate::specs::Text::agree))]
 pub fn agree(any: bool, a: u8, b: u8) -> bool
     ensures { result ≡ agree_of any a b }
 {
-    if a == b {
-        return true;
-    }
-    if !any {
-        return false;
-    }
-    if a == 48 {
-        return true;
-    }
-    b == 48
+    a == b || (any && (a == 48 || b == 48))
 }
 
 // The bytes of a string taken into a number, by which most strings are told apart.
@@ -177,10 +139,8 @@ pub fn mixed(start: u16, s: &[u8]) -> u16
     ensures { result ≡ mixed_of start s.now }
 {
     let mut h = start as u32;
-    let mut i = 0;
-    while i < s.len() {
-        h = (31 * h + (s[i] as u32)) % 65536;
-        i += 1;
+    for &b in s {
+        h = (31 * h + (b as u32)) % 65536;
     }
     h as u16
 }

@@ -1,9 +1,7 @@
 -- `texts::smaller` meets its contract: the bytes passed are equal in both, so the rests decide. Assumes nothing.
-use Prim.Native.Nat.{◌≤◌, ◌-◌}
 use native.Mathlib.Omega.{arith}
-use mathlib.Core.Path.{◌≡◌, refl, sym, ◌∙◌, ap}
-use lib.ListN.{length, drop}
-use Rattle.texts.specs.Text.{smaller, smaller_turn, smaller_stop, smaller_long, smaller_end}
+use mathlib.Core.Path.{sym, ◌∙◌}
+use Rattle.texts.specs.Text.{smaller_turn, smaller_stop, smaller_long, smaller_end}
 use Rattle.texts.proofs.smaller.Goals as goal
 
 pub returns-then-b-i : goal.returns-then-b-i

@@ -1,9 +1,8 @@
 -- `texts::smaller` meets its contract: the bytes passed are equal in both, so the rests decide. Assumes nothing.
 use Prim.Native.Nat.{◌≤◌, ◌-◌}
-use native.Mathlib.Omega.{arith}
-use mathlib.Core.Path.{◌≡◌, refl, sym, ◌∙◌, ap}
+use mathlib.Core.Path.{◌≡◌}
 use lib.ListN.{length, drop}
-use Rattle.texts.specs.Text.{smaller, smaller_turn, smaller_stop, smaller_long, smaller_end}
+use Rattle.texts.specs.Text.{smaller}
 use Rattle.texts.proofs.smaller.Given as goal
 
 abbrev pub invariant-loop-i : goal.invariant-loop-i

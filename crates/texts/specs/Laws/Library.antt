@@ -1,0 +1,40 @@
+-- The tests of Lists and Text by the library's names, in which the contracts of its iterators and operators speak. Assumes nothing.
+use Rattle.std.proofs.Common.{arith, sym, nat_eq, ltb, ltb-false}
+use Rattle.std.specs.Cmp.Lexicographic.{pointwise}
+use Rattle.std.specs.Prelude.{ℕ, ◌≡◌, refl, Bool, List, [], ◌∷◌, length}
+use Rattle.std.specs.Option.{unwrap_or}
+use Rattle.std.specs.List.{list_all, list_any, position, position_or_len}
+use Rattle.texts.specs.Choice.{cases}
+use Rattle.texts.specs.Lists.{every, some, place, place_le}
+use Rattle.texts.specs.Text.{same}
+
+module _ {A : Type 0} (f : A → Bool) where
+  pub every_list_all : (l : List A) → every f l ≡ list_all f l
+  unfolding every
+  every_list_all [] = refl
+  every_list_all (x ∷ xs) = rw (every_list_all xs) refl
+
+  pub some_list_any : (l : List A) → some f l ≡ list_any f l
+  unfolding some
+  some_list_any [] = refl
+  some_list_any (x ∷ xs) = rw (some_list_any xs) refl
+
+  pub place_or_len : (l : List A) → place f l ≡ position_or_len f l
+  unfolding place
+  place_or_len [] = refl
+  place_or_len (x ∷ xs) = cases (f x) (λ e. rw e refl) (λ e. rw e (rw (place_or_len xs) (omega arith)))
+
+  -- `position(..)`, and the length where it answers None
+  pub place_unwrap : (l : List A) → unwrap_or (position f l) (length l) ≡ place f l
+  place_unwrap l =
+      cases (ltb (position_or_len f l) (length l))
+      (λ e. rw e (sym (place_or_len l)))
+      (λ e. rw e (let h = ltb-false (position_or_len f l) (length l) e in let k = place_le f l in let m = place_or_len l in omega arith))
+
+-- `==` of two slices of bytes
+pub same_pointwise : (a b : List ℕ) → same a b ≡ pointwise nat_eq a b
+unfolding same
+same_pointwise [] [] = refl
+same_pointwise [] (y ∷ ys) = refl
+same_pointwise (x ∷ xs) [] = refl
+same_pointwise (x ∷ xs) (y ∷ ys) = rw (same_pointwise xs ys) refl
