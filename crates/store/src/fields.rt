@@ -43,7 +43,8 @@ pub fn has_exact(store: &[u8], n: usize) -> bool
     requires { n < 65536 }
     ensures { result ≡ has_exact store.now n }
 {
-    (1..=n).any(|k| records::byte_at(store, 512 * k + 52) == 1)
+    // Not `1..=n`: tried, and more than twice as slow.
+    (1..n + 1).any(|k| records::byte_at(store, 512 * k + 52) == 1)
 }
 
 // Whether the entry in a slot is exact or not, as wanted, and has this word, and a tag that agrees.
