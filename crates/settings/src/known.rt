@@ -13,8 +13,11 @@ fn value_of(settings: &[u8], wanted: &[u8], missing: Setting) -> Setting
     let Some(i) = chain::record_of(settings, wanted) else {
         return missing;
     };
-    let kind = records::byte_at(settings, 32 * i + 18);
-    values::setting_of(u32::from(kind), records::u32_at(settings, 32 * i + 19))
+    let kind = records::byte_at(settings, chain::at(i) + 18);
+    values::setting_of(
+        u32::from(kind),
+        records::u32_at(settings, chain::at(i) + 19),
+    )
 }
 
 #[tactic(auto, unfolding(settings_spec::specs::Settings::pitch_of))]
