@@ -109,3 +109,5 @@ module _ (b : List ℕ) where
 pub ruleset named_turns = (named_step, named_hit, named_stop, named_end, same_pointwise)
 
 pub ruleset walks_turns = (walks_step, walks_done, walks_stop, walks_end)
+
+pub ruleset differ_turns = (differ_turn, differ_hit, differ_stop, differ_end)
