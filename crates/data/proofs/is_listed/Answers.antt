@@ -15,7 +15,7 @@ loop-init c =
     let n : c.table_count-end.result - 0 ≡ u32_at s 0 = omega (arith, c.table_count-end.ensures.0) in
     (b, rw (n, at) (table_fit s c.requires), rw (n, at))
 
-pub unwrap-text-requires : goal.unwrap-requires
+pub unwrap-text-requires : goal.unwrap-text-requires
 unwrap-text-requires c =
     let l = c.loop in
     let s = c.args.s.now in
