@@ -2,11 +2,11 @@
 
 #![tactic(auto)]
 
-ghost use Rattle.std.specs.Prelude.{◌≡◌, true, ◌≤◌, ◌<◌, ◌^◌, length};
+ghost use Rattle.std.specs.Prelude.{◌≡◌, true, false, ◌≤◌, ◌<◌, ◌^◌, [], length, take, get_or, MatchOption};
 ghost use Rattle.records.specs.Fields.{u32_at};
-ghost use Rattle.data.specs.Sections.{is_phone_table, is_listed, is_lex_index, is_lts_index, is_lts_model, is_aswd};
+ghost use Rattle.data.specs.Sections.{is_phone_table, is_listed, is_lex_index, is_lts_index, is_lts_model, is_aswd, table_phones};
 ghost use Rattle.reader.specs.Reader.{fits};
-ghost use Rattle.data.specs.Places.{text_at, Placed};
+ghost use Rattle.data.specs.Places.{text_at, Placed, places as places_of};
 
 use reader::Reader;
 
@@ -55,6 +55,43 @@ pub fn table_count(s: &[u8]) -> usize
     ensures { (result ≡ u32_at s.now 0) × (result ≤ 256) }
 {
     count(s)
+}
+
+// A phone table, and where each of its phones stands in it.
+#[derive(Drop)]
+pub struct Table<'a> {
+    pub bytes: &'a [u8],
+    places: [u16; 256],
+    ghost is_table: { is_phone_table bytes.now ≡ true },
+    ghost placed: { take (u32_at bytes.now 0) places ≡ places_of (u32_at bytes.now 0) bytes.now 4 },
+}
+
+impl<'a> Table<'a> {
+    // The table that these bytes are, if they are one.
+    pub fn read(bytes: &'a [u8]) -> Option<Table<'a>>
+        ensures { MatchOption result (is_phone_table bytes.now ≡ false) (λ t. t.bytes ≡ bytes.entry) }
+    {
+        let mut places = [0u16; 256];
+        if !read_table(bytes, &mut places) {
+            return None;
+        }
+        Some(Table { bytes, places })
+    }
+
+    // How many phones it has.
+    pub fn len(&self) -> usize
+        ensures { (result ≡ u32_at self.now.bytes.now 0) × (result ≤ 256) }
+    {
+        table_count(self.bytes)
+    }
+
+    // Phone n.
+    pub fn phone(&self, n: u8) -> &'a [u8]
+        requires { n < u32_at self.now.bytes.now 0 }
+        ensures { result.now ≡ get_or (table_phones self.now.bytes.now) n [] }
+    {
+        phone_at(self.bytes, self.places[usize::from(n)])
+    }
 }
 
 // The phone at a place of a table.
