@@ -1,7 +1,7 @@
 -- What the slot that a search tells says of the entries.
 -- Assumes nothing.
-use Rattle.std.specs.Prelude.{ℕ, ◌*◌, ◌≡◌, ◌≢◌, Bool, true, List, ◌++◌, length, drop, ltb, Ok, Err}
-use Rattle.std.proofs.Common.{arith, sym, ◌∙◌, ap, ltb-false, ltb-true, eq-eqb, ne_eqb}
+use Rattle.std.specs.Prelude.{ℕ, ◌≡◌, ◌≢◌, Bool, true, List}
+use Rattle.std.proofs.Common.{sym, ◌∙◌, ap}
 use Rattle.std.proofs.Math.Option.{none, some}
 use Rattle.texts.specs.Lists.{first}
 use Rattle.slots_spec.specs.Slot.{Entry}

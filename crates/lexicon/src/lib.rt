@@ -16,7 +16,7 @@ ghost use Rattle.compiled_spec.specs.Entries.{is_spoken, entry_phones};
 ghost use Rattle.answers.specs.Told.{told_looked};
 ghost use Rattle.answers.specs.declared.Source.TheVariants.{Runtime, Addenda};
 ghost use Rattle.lexicon_spec.specs.Lookup.{found, spoken, chosen_entry, find as find_of, from_compiled, told_finding, out_finding};
-ghost use Rattle.lexicon.specs.Parts.{held, fits};
+ghost use Rattle.lexicon.specs.Parts.{held, answer};
 
 use answers::{Found, Refusal, Source};
 use compiled_spec::Damaged;
@@ -68,9 +68,9 @@ fn runtime(store: &[u8], word: &[u8], tag: u8) -> Option<usize>
     oldest_exact(store, word, tag).or_else(|| oldest_ordinary(store, word, tag))
 }
 
-// Whether so many phones may be answered in a room of so many bytes.
-fn fits(phones: usize, room: usize) -> Result<(), Refusal>
-    ensures { result ≡ fits phones room }
+// So many phones from a source as an answer, if an output of so many bytes may take them.
+fn answer(source: Source, phones: usize, room: usize) -> Result<Found, Refusal>
+    ensures { result ≡ answer source phones room }
 {
     if 96 < phones {
         return Err(Refusal::Phones);
@@ -78,7 +78,7 @@ fn fits(phones: usize, room: usize) -> Result<(), Refusal>
     if room < 16 * phones {
         return Err(Refusal::Short);
     }
-    Ok(())
+    Ok(Found { source, phones })
 }
 
 // The phones in cells as an answer.
@@ -87,13 +87,9 @@ fn give_cells(list: &[u8], out: &mut [u8]) -> Result<Option<Found>, Refusal>
     ensures result_value { told_looked result ≡ told_finding (found Runtime (phones_of list.now)) out.old }
     ensures out_after { out.new ≡ out_finding (found Runtime (phones_of list.now)) out.old }
 {
-    let phones = list.len() / 16;
-    fits(phones, out.len())?;
+    let cells = answer(Source::Runtime, list.len() / 16, out.len())?;
     cells::put_phones(out, 0, list);
-    Ok(Some(Found {
-        source: Source::Runtime,
-        phones,
-    }))
+    Ok(Some(cells))
 }
 
 // The phones of row n of the addenda as an answer.
@@ -102,13 +98,9 @@ fn give_row(n: usize, out: &mut [u8]) -> Result<Option<Found>, Refusal>
     ensures result_value { told_looked result ≡ told_finding (found Addenda (get_or addenda n no_addendum).phones) out.old }
     ensures out_after { out.new ≡ out_finding (found Addenda (get_or addenda n no_addendum).phones) out.old }
 {
-    let phones = addenda::count(n);
-    fits(phones, out.len())?;
+    let row = answer(Source::Addenda, addenda::count(n), out.len())?;
     addenda::put_phones(out, n);
-    Ok(Some(Found {
-        source: Source::Addenda,
-        phones,
-    }))
+    Ok(Some(row))
 }
 
 // Phone n of a table, whose phones stand at these places.
@@ -149,13 +141,9 @@ fn give_spoken(
     if !compiled::is_spoken(phones, s) {
         return Err(Refusal::Damaged);
     }
-    let count = compiled::numbers(s).len();
-    fits(count, out.len())?;
+    let entry = answer(Source::Compiled, compiled::numbers(s).len(), out.len())?;
     put_spoken(phones, places, s, out);
-    Ok(Some(Found {
-        source: Source::Compiled,
-        phones: count,
-    }))
+    Ok(Some(entry))
 }
 
 // The compiled answer.

@@ -1,5 +1,5 @@
 -- `lexicon::runtime` meets its contract: an exact entry that matches is chosen, failing one the ordinary one. Assumes nothing.
-use Rattle.std.proofs.Common.{arith, rules}
+use Rattle.std.proofs.Common.{arith}
 use Rattle.std.proofs.lemmas.Grind.{common_steps}
 use Rattle.std.proofs.Math.Option.{or_else}
 use Rattle.lexicon_spec.specs.Lookup.{chosen_entry}
