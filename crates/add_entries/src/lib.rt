@@ -6,27 +6,32 @@ ghost use Rattle.std.specs.Prelude.{◌≡◌};
 ghost use Rattle.answers.specs.Told.{told_lines};
 ghost use Rattle.add_entries.specs.AddEntries.{add_entries, store_after, spare_after};
 
-use answers::{Lines, Refusal};
+use answers::{AtLine, Refusal};
 
-pub fn add_entries(table: &[u8], store: &mut [u8], spare: &mut [u8], text: &[u8]) -> Lines
+pub fn add_entries(
+    table: &[u8],
+    store: &mut [u8],
+    spare: &mut [u8],
+    text: &[u8],
+) -> Result<usize, AtLine>
     ensures result_value { told_lines result ≡ add_entries table.now store.old spare.old text.now }
     ensures store_after { store.new ≡ store_after table.now store.old spare.old text.now }
     ensures spare_after { spare.new ≡ spare_after table.now store.old spare.old text.now }
 {
     if !data::is_phone_table(table) {
-        return Lines::Refused(Refusal::Section, 0);
+        return Err(Refusal::Section.into());
     }
     if !sound_store::is_sound(store) {
-        return Lines::Refused(Refusal::Unsound, 0);
+        return Err(Refusal::Unsound.into());
     }
     if spare.len() != store.len() {
-        return Lines::Refused(Refusal::Unsound, 0);
+        return Err(Refusal::Unsound.into());
     }
     if counting::count(store) == counting::largest() {
-        return Lines::Refused(Refusal::Count, 0);
+        return Err(Refusal::Count.into());
     }
     if !texts::is_ascii(text) {
-        return Lines::Refused(Refusal::Text, 0);
+        return Err(Refusal::Text.into());
     }
     addtext::fill_and_take(table, store, spare, text)
 }

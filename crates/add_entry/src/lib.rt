@@ -6,7 +6,7 @@ ghost use Rattle.std.specs.Prelude.{◌≡◌};
 ghost use Rattle.answers.specs.Told.{told_done};
 ghost use Rattle.add_entry.specs.AddEntry.{add_entry, store_after};
 
-use answers::{Done, Refusal};
+use answers::Refusal;
 
 pub fn add_entry(
     table: &[u8],
@@ -15,32 +15,32 @@ pub fn add_entry(
     tag: &[u8],
     phones: &[u8],
     exact: bool,
-) -> Done
+) -> Result<(), Refusal>
     ensures result_value { told_done result ≡ add_entry table.now store.old word.now tag.now phones.now exact }
     ensures store_after { store.new ≡ store_after table.now store.old word.now tag.now phones.now exact }
 {
     if !data::is_phone_table(table) {
-        return Done::Refused(Refusal::Section);
+        return Err(Refusal::Section);
     }
     if !sound_store::is_sound(store) {
-        return Done::Refused(Refusal::Unsound);
+        return Err(Refusal::Unsound);
     }
     let seen = counting::count(store);
     if seen == counting::largest() {
-        return Done::Refused(Refusal::Count);
+        return Err(Refusal::Count);
     }
     if !adding::are_texts(word, tag, phones) {
-        return Done::Refused(Refusal::Text);
+        return Err(Refusal::Text);
     }
     if !adding::may_add_all(table, phones) {
-        return Done::Refused(Refusal::UnknownPhone);
+        return Err(Refusal::UnknownPhone);
     }
     if 24 < phones.len() / 16 {
-        return Done::Refused(Refusal::Phones);
+        return Err(Refusal::Phones);
     }
     if adding::add(store, adding::added_tag(tag), word, phones, exact) {
         counting::set_count(store, seen + 1);
-        return Done::Accepted;
+        return Ok(());
     }
-    Done::Refused(Refusal::Full)
+    Err(Refusal::Full)
 }

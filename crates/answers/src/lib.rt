@@ -4,105 +4,75 @@
 #![tactic(auto)]
 
 ghost use Rattle.std.specs.Prelude.{◌≡◌};
-ghost use Rattle.answers.specs.Told.{refusal_number, source_number, refused as refused_by, accepted as accepted_as, accepted_with, told_verdict, told_looked, told_predicted, told_marked, told_done, told_lines, told_previewed, told_said, told_joined, no_settings, told_shown};
+ghost use Rattle.answers.specs.Told.{refusal_number, at_whole, source_number, refused as refused_by, accepted as accepted_as, accepted_with, told_verdict, told_looked, told_predicted, told_count, told_done, told_lines, told_previewed, told_said, no_settings, told_shown};
 
-// Why a call was refused: 01's numbers 1 to 9 in this order, then 02's 12, 15, 16 and 17. docs/FORMATS.md has their ranks.
-#[derive(Drop)]
+// Why a call was refused: 01's numbers 1 to 9, then 02's 12, 15, 16 and 17. docs/FORMATS.md has their ranks.
+#[derive(Clone, Copy, Debug, PartialEq, Eq)]
 pub enum Refusal {
-    Section,
-    Unsound,
-    Text,
-    Line,
-    UnknownPhone,
-    Damaged,
-    Phones,
-    Full,
-    Short,
-    Count,
-    Version,
-    Records,
-    Range,
+    Section = 1,
+    Unsound = 2,
+    Text = 3,
+    Line = 4,
+    UnknownPhone = 5,
+    Damaged = 6,
+    Phones = 7,
+    Full = 8,
+    Short = 9,
+    Count = 12,
+    Version = 15,
+    Records = 16,
+    Range = 17,
+}
+
+// Why a text was refused, and by which of its lines: 0 where it is the text as a whole.
+#[derive(Clone, Copy, Debug, PartialEq, Eq)]
+pub struct AtLine {
+    pub refusal: Refusal,
+    pub line: usize,
+}
+
+impl From<Refusal> for AtLine {
+    ghost from_gives = { λ r a. a ≡ at_whole r };
+
+    fn from(refusal: Refusal) -> Self {
+        AtLine { refusal, line: 0 }
+    }
 }
 
 // Where a pronunciation was found.
-#[derive(Drop)]
+#[derive(Clone, Copy, Debug, PartialEq, Eq)]
 pub enum Source {
-    Runtime,
-    Addenda,
-    Compiled,
+    Runtime = 1,
+    Addenda = 2,
+    Compiled = 3,
 }
 
-// check lexicon and sayable
-#[derive(Drop)]
-pub enum Verdict {
-    Refused(Refusal),
-    Yes,
-    No,
-}
-
-// lookup: a source and how many phones
-#[derive(Drop)]
-pub enum Looked {
-    Refused(Refusal),
-    Nothing,
-    Found(Source, usize),
+// lookup: a source that has the word, and how many phones
+#[derive(Clone, Copy, Debug, PartialEq, Eq)]
+pub struct Found {
+    pub source: Source,
+    pub phones: usize,
 }
 
 // predict: how many phones, and the place just after the last "#" (02, S-5)
-#[derive(Drop)]
-pub enum Predicted {
-    Refused(Refusal),
-    Phones(usize, usize),
+#[derive(Clone, Copy, Debug, PartialEq, Eq)]
+pub struct Predicted {
+    pub phones: usize,
+    pub stopped: usize,
 }
 
-// syllabify: how many marks
-#[derive(Drop)]
-pub enum Marked {
-    Refused(Refusal),
-    Marks(usize),
-}
-
-// new store, add entry, accept entries, new sheet and write setting
-#[derive(Drop)]
-pub enum Done {
-    Refused(Refusal),
-    Accepted,
-}
-
-// add text: the line of a refusal, 0 for the text as a whole, or how many entry lines were taken
-#[derive(Drop)]
-pub enum Lines {
-    Refused(Refusal, usize),
-    Taken(usize),
-}
-
-// preview entries (02, S-2): the line of a refusal, 0 for the text as a whole, or how many entry lines were taken, how many slots
-// are newly used, and how many lines replaced an entry
-#[derive(Drop)]
-pub enum Previewed {
-    Refused(Refusal, usize),
-    Taken(usize, usize, usize),
-}
-
-// say word: the place just after the last "#", 0 where the letters weren't read (02, S-5)
-#[derive(Drop)]
-pub enum Said {
-    Refused(Refusal),
-    Accepted(usize),
-}
-
-// phone string: how many bytes
-#[derive(Drop)]
-pub enum Joined {
-    Refused(Refusal),
-    Bytes(usize),
+// preview entries (02, S-2): how many entry lines were taken, how many slots are newly used, and how many lines replaced an entry
+#[derive(Clone, Copy, Debug, PartialEq, Eq)]
+pub struct Previewed {
+    pub taken: usize,
+    pub newly: usize,
+    pub replaced: usize,
 }
 
 // read settings: what a reader of version 1 is shown (pitch, stretch, the rack's stretch), and one of version 2 (pitch,
 // stretch, level, the rack's stretch)
-#[derive(Drop)]
+#[derive(Clone, Copy)]
 pub enum Shown {
-    Refused(Refusal),
     First(i32, f32, f32),
     Second(i32, f32, i32, f32),
 }
@@ -110,7 +80,7 @@ pub enum Shown {
 // What read settings shows, in the form that C sees: `refusal` is 0 where the call was accepted, `count` how many
 // settings are shown, 2 or 3; where it is 2 there is no level.
 #[repr(C)]
-#[derive(Drop)]
+#[derive(Clone, Copy)]
 pub struct Settings {
     pub refusal: u32,
     pub count: u32,
@@ -124,7 +94,7 @@ pub struct Settings {
 // a source or a yes, `value` the line of a refusal or a count, `second` the place where the letters stopped or the slots newly
 // used, `third` the lines that replaced an entry.
 #[repr(C)]
-#[derive(Drop)]
+#[derive(Clone, Copy)]
 pub struct Answer {
     pub refusal: u32,
     pub kind: u32,
@@ -136,31 +106,13 @@ pub struct Answer {
 fn refusal_number(r: Refusal) -> u32
     ensures { result ≡ refusal_number r }
 {
-    match r {
-        Refusal::Section => 1,
-        Refusal::Unsound => 2,
-        Refusal::Text => 3,
-        Refusal::Line => 4,
-        Refusal::UnknownPhone => 5,
-        Refusal::Damaged => 6,
-        Refusal::Phones => 7,
-        Refusal::Full => 8,
-        Refusal::Short => 9,
-        Refusal::Count => 12,
-        Refusal::Version => 15,
-        Refusal::Records => 16,
-        Refusal::Range => 17,
-    }
+    r as u32
 }
 
 pub fn source_number(s: Source) -> u8
     ensures { result ≡ source_number s }
 {
-    match s {
-        Source::Runtime => 1,
-        Source::Addenda => 2,
-        Source::Compiled => 3,
-    }
+    s as u8
 }
 
 fn refused(r: Refusal, line: usize) -> Answer
@@ -193,86 +145,80 @@ pub fn accepted(kind: u32, value: usize) -> Answer
     accepted_with(kind, value, 0, 0)
 }
 
-pub fn told_verdict(a: Verdict) -> Answer
+pub fn told_verdict(a: Result<bool, Refusal>) -> Answer
     ensures { result ≡ told_verdict a }
 {
     match a {
-        Verdict::Refused(r) => refused(r, 0),
-        Verdict::Yes => accepted(1, 0),
-        Verdict::No => accepted(0, 0),
+        Err(r) => refused(r, 0),
+        Ok(yes) => accepted(yes as u32, 0),
     }
 }
 
-pub fn told_looked(a: Looked) -> Answer
+pub fn told_looked(a: Result<Option<Found>, Refusal>) -> Answer
     ensures { result ≡ told_looked a }
 {
     match a {
-        Looked::Refused(r) => refused(r, 0),
-        Looked::Nothing => accepted(0, 0),
-        Looked::Found(s, n) => accepted(source_number(s) as u32, n),
+        Err(r) => refused(r, 0),
+        Ok(None) => accepted(0, 0),
+        Ok(Some(found)) => accepted(source_number(found.source) as u32, found.phones),
     }
 }
 
-pub fn told_predicted(a: Predicted) -> Answer
+pub fn told_predicted(a: Result<Predicted, Refusal>) -> Answer
     ensures { result ≡ told_predicted a }
 {
     match a {
-        Predicted::Refused(r) => refused(r, 0),
-        Predicted::Phones(n, place) => accepted_with(0, n, place, 0),
+        Err(r) => refused(r, 0),
+        Ok(p) => accepted_with(0, p.phones, p.stopped, 0),
     }
 }
 
-pub fn told_marked(a: Marked) -> Answer
-    ensures { result ≡ told_marked a }
+// syllabify: how many marks; phone string: how many bytes
+pub fn told_count(a: Result<usize, Refusal>) -> Answer
+    ensures { result ≡ told_count a }
 {
     match a {
-        Marked::Refused(r) => refused(r, 0),
-        Marked::Marks(n) => accepted(0, n),
+        Err(r) => refused(r, 0),
+        Ok(n) => accepted(0, n),
     }
 }
 
-pub fn told_done(a: Done) -> Answer
+// new store, add entry, accept entries, new sheet and write setting
+pub fn told_done(a: Result<(), Refusal>) -> Answer
     ensures { result ≡ told_done a }
 {
     match a {
-        Done::Refused(r) => refused(r, 0),
-        Done::Accepted => accepted(0, 0),
+        Err(r) => refused(r, 0),
+        Ok(()) => accepted(0, 0),
     }
 }
 
-pub fn told_lines(a: Lines) -> Answer
+// add text: how many entry lines were taken
+pub fn told_lines(a: Result<usize, AtLine>) -> Answer
     ensures { result ≡ told_lines a }
 {
     match a {
-        Lines::Refused(r, line) => refused(r, line),
-        Lines::Taken(n) => accepted(0, n),
+        Err(at) => refused(at.refusal, at.line),
+        Ok(n) => accepted(0, n),
     }
 }
 
-pub fn told_previewed(a: Previewed) -> Answer
+pub fn told_previewed(a: Result<Previewed, AtLine>) -> Answer
     ensures { result ≡ told_previewed a }
 {
     match a {
-        Previewed::Refused(r, line) => refused(r, line),
-        Previewed::Taken(n, newly, replaced) => accepted_with(0, n, newly, replaced),
+        Err(e) => refused(e.refusal, e.line),
+        Ok(p) => accepted_with(0, p.taken, p.newly, p.replaced),
     }
 }
 
-pub fn told_said(a: Said) -> Answer
+// say word: the place just after the last "#", 0 where the letters weren't read (02, S-5)
+pub fn told_said(a: Result<usize, Refusal>) -> Answer
     ensures { result ≡ told_said a }
 {
     match a {
-        Said::Refused(r) => refused(r, 0),
-        Said::Accepted(place) => accepted_with(0, 0, place, 0),
-    }
-}
-
-pub fn told_joined(a: Joined) -> Answer
-    ensures { result ≡ told_joined a }
-{
-    match a {
-        Joined::Refused(r) => refused(r, 0),
-        Joined::Bytes(n) => accepted(0, n),
+        Err(r) => refused(r, 0),
+        Ok(stopped) => accepted_with(0, 0, stopped, 0),
     }
 }
 
@@ -289,12 +235,12 @@ fn no_settings(r: Refusal) -> Settings
     }
 }
 
-pub fn told_shown(a: Shown) -> Settings
+pub fn told_shown(a: Result<Shown, Refusal>) -> Settings
     ensures { result ≡ told_shown a }
 {
     match a {
-        Shown::Refused(r) => no_settings(r),
-        Shown::First(pitch, stretch, rack) => Settings {
+        Err(r) => no_settings(r),
+        Ok(Shown::First(pitch, stretch, rack)) => Settings {
             refusal: 0,
             count: 2,
             pitch,
@@ -302,7 +248,7 @@ pub fn told_shown(a: Shown) -> Settings
             level: 0,
             rack,
         },
-        Shown::Second(pitch, stretch, level, rack) => Settings {
+        Ok(Shown::Second(pitch, stretch, level, rack)) => Settings {
             refusal: 0,
             count: 3,
             pitch,

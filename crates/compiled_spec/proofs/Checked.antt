@@ -1,6 +1,6 @@
 -- Theorems about `specs/Checked.antt`: 01, Lookup: in a lexicon that check lexicon says yes to, a compiled answer is the first equal word with the exact tag, else the first equal word.
 -- Assumes nothing.
-use Rattle.std.specs.Prelude.{ℕ, zero, suc, ◌+◌, ◌-◌, ◌/◌, ◌≤◌, ◌<◌, ◌≡◌, true, false, List, eqb, ltb}
+use Rattle.std.specs.Prelude.{ℕ, zero, suc, ◌+◌, ◌-◌, ◌/◌, ◌≤◌, ◌<◌, ◌≡◌, true, false, List, eqb, ltb, None, Ok}
 use native.Mathlib.Omega.{arith}
 use Rattle.std.proofs.Common.{sym, ◌∙◌}
 use Rattle.std.proofs.Math.Path.{ap}
@@ -8,11 +8,10 @@ use borrow.Author.Tests.{lt-ltb, le-ltb, ltb-true, ltb-false, eqb-true, eqb-fals
 use Rattle.texts.specs.Choice.{when◌then◌else◌, cases, never, is_false, both_true}
 use Rattle.texts.specs.Lists.{every, place, up_to}
 use Rattle.texts.specs.Text.{smaller, same_true, eq_same}
-use Rattle.compiled_spec.specs.declared.Chosen.TheVariants.{Missing, Entry}
 use Rattle.compiled_spec.proofs.Laws.Numbers.{below_at, first_below, none_below}
 use Rattle.compiled_spec.proofs.Laws.Order.{smaller_never_itself, smaller_neither, smaller_larger, larger_chain, smaller_not_same}
 use Rattle.compiled_spec.specs.Entries.{tag_of, is_whole, is_spoken, count, entry_at}
-use Rattle.compiled_spec.specs.Search.{search as searched, tagged, from_place, chosen}
+use Rattle.compiled_spec.specs.Search.{this, search as searched, tagged, from_place, chosen}
 use Rattle.compiled_spec.proofs.Search.{search_end, search_up, search_down, tagged_end, tagged_other, tagged_stop, tagged_turn}
 use Rattle.compiled_spec.specs.Lexicon.{is_good, rises, is_checked}
 use Rattle.compiled_spec.specs.Checked.{word_at, is_equal, is_exact, first}
@@ -52,7 +51,7 @@ module _ (phones index dat : List ℕ) (checked : is_checked phones index dat �
     split : (k lo hi : ℕ) → hi - lo ≤ k → lo ≤ hi → hi ≤ count index
         → ((i : ℕ) → i < lo → smaller (word_at index dat i) word ≡ true)
         → ((i : ℕ) → hi ≤ i → i < count index → smaller (word_at index dat i) word ≡ false)
-        → (p : ℕ) × (searched index dat word (hi - lo) lo hi ≡ Entry p) × Split p
+        → (p : ℕ) × (searched index dat word (hi - lo) lo hi ≡ Ok p) × Split p
     split zero lo hi short order inside low high =
         (lo, search_end index dat word lo hi (hi - lo) (omega arith), record { low = low; high = λ i h. high i (omega arith) })
     split (suc k) lo hi short order inside low high =
@@ -81,7 +80,7 @@ module _ (phones index dat : List ℕ) (checked : is_checked phones index dat �
         let r = rw d at (rise i j h g) in
         never (is_equal index dat word i) (eq_same (word_at index dat i) word (smaller_neither (word_at index dat i) word s r)) e)
 
-    missing : (tag : ℕ) → ((j : ℕ) → j < count index → is_equal index dat word j ≡ false) → first index dat word tag ≡ Missing
+    missing : (tag : ℕ) → ((j : ℕ) → j < count index → is_equal index dat word j ≡ false) → first index dat word tag ≡ Ok None
     unfolding first
     missing tag fails =
         rw (
@@ -93,7 +92,7 @@ module _ (phones index dat : List ℕ) (checked : is_checked phones index dat �
     module _ (tag p : ℕ) (s : Split p) where
       -- along the run from entry p on, whose entries up to i have other tags
       run : (k i : ℕ) → i + k ≡ count index → p ≤ i → ((j : ℕ) → j < i → is_exact index dat word tag j ≡ false)
-          → tagged index dat word tag p k i ≡ (when ltb (place (is_exact index dat word tag) (up_to (count index))) (count index) then Entry (place (is_exact index dat word tag) (up_to (count index))) else Entry p)
+          → tagged index dat word tag p k i ≡ (when ltb (place (is_exact index dat word tag) (up_to (count index))) (count index) then Ok (place (is_exact index dat word tag) (up_to (count index))) else Ok p)
       run zero i end h fails =
           tagged_end index dat word tag p 0 i (omega arith)
           ∙ rw (none_below (is_exact index dat word tag) (count index) (λ j g. fails j (omega arith)), le-ltb (count index) (count index) (omega arith))
@@ -121,11 +120,14 @@ module _ (phones index dat : List ℕ) (checked : is_checked phones index dat �
       before : (j : ℕ) → j < p → is_equal index dat word j ≡ false
       before j h = smaller_not_same (word_at index dat j) word (s.low j h)
 
-      found : p < count index → is_equal index dat word p ≡ true → tagged index dat word tag p (count index - p) p ≡ first index dat word tag
+      found : p < count index → is_equal index dat word p ≡ true → this (tagged index dat word tag p (count index - p) p) ≡ first index dat word tag
       unfolding first
       found h e =
-          rw (first_below (is_equal index dat word) (count index) p h e before, lt-ltb p (count index) h)
-          (run (count index - p) p (omega arith) (omega arith) (λ j g. rw (before j g)))
+          rw (
+            first_below (is_equal index dat word) (count index) p h e before,
+            lt-ltb p (count index) h,
+            run (count index - p) p (omega arith) (omega arith) (λ j g. rw (before j g)),
+          ) (cases (ltb (place (is_exact index dat word tag) (up_to (count index))) (count index)) (λ t. rw t) (λ t. rw t))
 
       told : from_place index dat word tag p ≡ first index dat word tag
       unfolding from_place

@@ -2,15 +2,15 @@
 -- Assumes nothing.
 use Prim.Native.Nat.{ℕ, zero, suc, ◌+◌, ◌-◌, ◌/◌, ◌≤◌, ◌<◌}
 use native.Mathlib.Omega.{arith}
-use Rattle.std.specs.Prelude.{◌≡◌, true, false, List, ltb}
+use Rattle.std.specs.Prelude.{◌≡◌, true, false, List, ltb, Ok, Err}
 use Rattle.std.proofs.Math.Path.{refl, ap}
 use Rattle.std.proofs.Common.{◌∙◌}
 use borrow.Author.Tests.{ltb-true, lt-ltb, le-ltb, eq-eqb, ne_eqb}
 use Rattle.texts.specs.Choice.{cases}
+use Rattle.texts.specs.Laws.Library.{same_pointwise}
 use Rattle.texts.specs.Text.{same, smaller}
-use Rattle.compiled_spec.specs.declared.Chosen.TheVariants.{Damaged, Entry}
 use Rattle.compiled_spec.specs.Entries.{tag_of, word_of, is_whole, entry_at}
-use Rattle.compiled_spec.specs.Search.{search, tagged}
+use Rattle.compiled_spec.specs.Search.{damaged, search, tagged}
 
 module _ (index dat word : List ℕ) where
   -- more turns than entries are left change nothing
@@ -29,13 +29,13 @@ module _ (index dat word : List ℕ) where
 
 -- one law for each turn of the halving, over as many turns as entries are left
 module _ (index dat word : List ℕ) (lo hi : ℕ) where
-  pub search_end : (n : ℕ) → hi ≤ lo → search index dat word n lo hi ≡ Entry lo
+  pub search_end : (n : ℕ) → hi ≤ lo → search index dat word n lo hi ≡ Ok lo
   unfolding search
   search_end zero h = refl
   search_end (suc n) h = rw (le-ltb lo hi h)
 
   module _ (more : lo < hi) where
-    pub search_damaged : is_whole (entry_at index dat ((lo + hi) / 2)) ≡ false → search index dat word (hi - lo) lo hi ≡ Damaged
+    pub search_damaged : is_whole (entry_at index dat ((lo + hi) / 2)) ≡ false → search index dat word (hi - lo) lo hi ≡ Err damaged
     unfolding search
     search_damaged e = let n : hi - lo ≡ suc (hi - lo - 1) = omega arith in rw (n, lt-ltb lo hi more, e)
 
@@ -57,22 +57,22 @@ module _ (index dat word : List ℕ) (lo hi : ℕ) where
 
 -- one law for each turn along the run of equal words
 module _ (index dat word : List ℕ) (tag lo n i : ℕ) where
-  pub tagged_end : n ≤ 0 → tagged index dat word tag lo n i ≡ Entry lo
+  pub tagged_end : n ≤ 0 → tagged index dat word tag lo n i ≡ Ok lo
   unfolding tagged
   tagged_end h = let e : n ≡ 0 = omega arith in rw e
 
   module _ (more : 0 < n) where
-    pub tagged_damaged : is_whole (entry_at index dat i) ≡ false → tagged index dat word tag lo n i ≡ Damaged
+    pub tagged_damaged : is_whole (entry_at index dat i) ≡ false → tagged index dat word tag lo n i ≡ Err damaged
     unfolding tagged
     tagged_damaged e = let k : n ≡ suc (n - 1) = omega arith in rw (k, e)
 
     module _ (whole : is_whole (entry_at index dat i) ≡ true) where
-      pub tagged_other : same (word_of (entry_at index dat i)) word ≡ false → tagged index dat word tag lo n i ≡ Entry lo
+      pub tagged_other : same (word_of (entry_at index dat i)) word ≡ false → tagged index dat word tag lo n i ≡ Ok lo
       unfolding tagged
       tagged_other e = let k : n ≡ suc (n - 1) = omega arith in rw (k, whole, e)
 
       module _ (equal : same (word_of (entry_at index dat i)) word ≡ true) where
-        pub tagged_stop : tag_of (entry_at index dat i) ≡ tag → tagged index dat word tag lo n i ≡ Entry i
+        pub tagged_stop : tag_of (entry_at index dat i) ≡ tag → tagged index dat word tag lo n i ≡ Ok i
         unfolding tagged
         tagged_stop e = let k : n ≡ suc (n - 1) = omega arith in rw (k, whole, equal, eq-eqb (tag_of (entry_at index dat i)) tag e)
 
@@ -81,3 +81,7 @@ module _ (index dat word : List ℕ) (tag lo n i : ℕ) where
         tagged_turn e =
             let k : n ≡ suc (n - 1) = omega arith in
             ap (λ (m : ℕ). tagged index dat word tag lo m i) k ∙ rw (whole, equal, ne_eqb (tag_of (entry_at index dat i)) tag e)
+
+-- these laws for the proofs of both loops
+pub ruleset halving = (search_end, search_damaged, search_up, search_down)
+pub ruleset walking = (tagged_end, tagged_damaged, tagged_other, tagged_stop, tagged_turn, same_pointwise)

@@ -1,12 +1,11 @@
 -- 01, Lookup: in a lexicon that check lexicon says yes to, a compiled answer is the first equal word with the exact tag, else the first equal word.
 -- Assumes nothing.
-use Rattle.std.specs.Prelude.{ℕ, Bool, ◌&&◌, List, eqb, ltb}
+use Rattle.std.specs.Prelude.{ℕ, Bool, ◌&&◌, List, eqb, ltb, Some, None, Ok}
 use Rattle.texts.specs.Choice.{when◌then◌else◌}
 use Rattle.texts.specs.Lists.{place, up_to}
 use Rattle.texts.specs.Text.{same}
-use Rattle.compiled_spec.specs.declared.Chosen.{Chosen}
-use Rattle.compiled_spec.specs.declared.Chosen.TheVariants.{Missing, Entry}
 use Rattle.compiled_spec.specs.Entries.{tag_of, word_of, count, entry_at}
+use Rattle.compiled_spec.specs.Search.{Chosen}
 
 -- the word of entry i
 abbrev pub word_at : List ℕ → List ℕ → ℕ → List ℕ
@@ -26,4 +25,4 @@ module _ (index dat word : List ℕ) where
   first tag =
       let exact = place (is_exact tag) (up_to (count index)) in
       let equal = place is_equal (up_to (count index)) in
-      when ltb exact (count index) then Entry exact else when ltb equal (count index) then Entry equal else Missing
+      when ltb exact (count index) then Ok (Some exact) else when ltb equal (count index) then Ok (Some equal) else Ok None

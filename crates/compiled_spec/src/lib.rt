@@ -2,10 +2,6 @@
 
 #![tactic(auto)]
 
-// An entry's number; or that there is none, or that an entry which was read is damaged.
-#[derive(Drop)]
-pub enum Chosen {
-    Damaged,
-    Missing,
-    Entry(usize),
-}
+// An entry that was read is damaged.
+#[derive(Clone, Copy, Debug, Drop, PartialEq, Eq)]
+pub struct Damaged;

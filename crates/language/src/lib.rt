@@ -2,154 +2,98 @@
 
 #![tactic(auto)]
 
-ghost use Rattle.std.specs.Prelude.{◌≡◌, reverse, ◌≤◌, length};
+ghost use Rattle.std.specs.Prelude.{◌≡◌, List, ℕ, ◌≤◌, length};
+ghost use Rattle.std.specs.Iterator.{IsFinite, AlwaysYields};
 ghost use Rattle.texts.specs.Text.{folded};
 ghost use Rattle.answers.specs.Told.{told_verdict};
-ghost use Rattle.language.specs.Machine.{cells, symbol as symbol_of, step as step_from, moved, accepts};
+ghost use Rattle.language.specs.Machine.{cells, symbol as symbol_of, step as step_from, moved, accepts as reach};
 ghost use Rattle.language.specs.Call.{both_accept, is_sayable};
 
-use answers::{Refusal, Verdict};
-
-// A step out of a state.
-#[derive(Drop)]
-pub enum Stepped {
-    To(u16),
-    Fails,
-}
-
-// One letter more of a word.
-#[derive(Drop)]
-pub enum Moved {
-    // on to a state
-    On(u16),
-    // it was a vowel
-    Accepted,
-    Failed,
-}
+use answers::Refusal;
+use std::ops::ControlFlow::{self, Break, Continue};
 
 // n and m become N, vowels and y become V.
+#[tactic(auto, unfolding(crate::specs::Machine::symbol, texts::specs::Lists::some, texts::specs::Text::is))]
 fn symbol(b: u8) -> u8
     ensures { result ≡ symbol_of b }
 {
     match b {
-        109 | 110 => 78,
-        97 | 101 | 105 | 111 | 117 | 121 => 86,
+        b'm' | b'n' => b'N',
+        b'a' | b'e' | b'i' | b'o' | b'u' | b'y' => b'V',
         _ => b,
     }
 }
 
 // The step on a symbol out of a state.
-fn step(table: &[u8], state: u16, symbol: u8) -> Stepped
+#[tactic(auto, using(crate::specs::Machine::scans), unfolding(crate::specs::Machine::step))]
+fn step(table: &[u8], state: u16, symbol: u8) -> Option<u16>
     requires { 4 ≤ length table.now }
     ensures { result ≡ step_from (cells table.now) state symbol }
 {
     let n = (table.len() - 4) / 2;
-    let mut i = state as usize;
-    while i < n {
+    for i in usize::from(state)..n {
         let cell = records::u16_in(table, 4 + 2 * i);
         if cell == 0 {
-            return Stepped::Fails;
+            return None;
         }
-        if cell % 128 == symbol as u16 {
-            return Stepped::To(cell / 128);
+        if cell % 128 == u16::from(symbol) {
+            return Some(cell / 128);
         }
-        i += 1;
     }
-    Stepped::Fails
+    None
 }
 
-// The step on a letter of a word.
-fn letter(table: &[u8], state: u16, b: u8) -> Moved
+// The step on a letter of a word: on to a state, or the walk ends, accepted at a vowel.
+#[tactic(auto, unfolding(crate::specs::Machine::moved))]
+fn letter(table: &[u8], state: u16, b: u8) -> ControlFlow<bool, u16>
     requires { 4 ≤ length table.now }
     ensures { result ≡ moved (cells table.now) state (symbol_of (folded b)) }
 {
     let s = symbol(texts::fold(b));
-    let Stepped::To(next) = step(table, state, s) else {
-        return Moved::Failed;
-    };
-    if s == 86 {
-        return Moved::Accepted;
+    match step(table, state, s) {
+        None => Break(false),
+        Some(_) if s == b'V' => Break(true),
+        Some(next) => Continue(next),
     }
-    Moved::On(next)
 }
 
-// Whether the letters of a word from the first on reach a vowel.
-fn accepts_forwards(table: &[u8], start: u16, word: &[u8]) -> bool
-    requires { 4 ≤ length table.now }
-    ensures { result ≡ accepts (cells table.now) start word.now }
+// Whether letters reach a vowel from a state.
+fn accepts<'a, I: Iterator<Item = &'a u8>>(table: &[u8], start: u16, letters: I) -> bool
+    requires has_cells { 4 ≤ length table.now }
+    requires can { I.can_next letters }
+    requires ends { IsFinite (I.remaining letters) }
+    ensures { (word : List ℕ) → AlwaysYields I.next_gives (λ x. x.now) letters word → result ≡ reach (cells table.now) start word }
 {
     let mut state = start;
-    let mut i = 0;
-    while i < word.len() {
-        match letter(table, state, word[i]) {
-            Moved::On(next) => {
-                state = next;
-            }
-            Moved::Accepted => {
-                return true;
-            }
-            Moved::Failed => {
-                return false;
-            }
+    for &b in letters {
+        match letter(table, state, b) {
+            Continue(next) => state = next,
+            Break(accepted) => return accepted,
         }
-        i += 1;
     }
     false
 }
 
-// Whether the letters of a word from the last on reach a vowel.
-fn accepts_backwards(table: &[u8], start: u16, word: &[u8]) -> bool
-    requires { 4 ≤ length table.now }
-    ensures { result ≡ accepts (cells table.now) start (reverse word.now) }
-{
-    let mut state = start;
-    let mut left = word.len();
-    while 0 < left {
-        match letter(table, state, word[left - 1]) {
-            Moved::On(next) => {
-                state = next;
-            }
-            Moved::Accepted => {
-                return true;
-            }
-            Moved::Failed => {
-                return false;
-            }
-        }
-        left -= 1;
-    }
-    false
-}
-
-// Whether both machines, from aswd.p's step on "#", accept the letters of a word.
+// Whether both machines, from aswd.p's step on "#", accept the letters of a word: the first from the first on, the second from the last.
 fn both_accept(prefix: &[u8], suffix: &[u8], word: &[u8]) -> bool
     requires { (4 ≤ length prefix.now) × (4 ≤ length suffix.now) }
     ensures { result ≡ both_accept prefix.now suffix.now word.now (step_from (cells prefix.now) 0 35) }
 {
-    let Stepped::To(start) = step(prefix, 0, 35) else {
+    let Some(start) = step(prefix, 0, b'#') else {
         return false;
     };
-    if !accepts_forwards(prefix, start, word) {
-        return false;
-    }
-    accepts_backwards(suffix, start, word)
+    accepts(prefix, start, word.iter()) && accepts(suffix, start, word.iter().rev())
 }
 
-pub fn is_sayable(prefix: &[u8], suffix: &[u8], word: &[u8]) -> Verdict
+#[tactic(auto, unfolding(crate::specs::Call::is_sayable))]
+pub fn is_sayable(prefix: &[u8], suffix: &[u8], word: &[u8]) -> Result<bool, Refusal>
     ensures { told_verdict result ≡ is_sayable prefix.now suffix.now word.now }
 {
-    if !data::is_aswd(prefix) {
-        return Verdict::Refused(Refusal::Section);
-    }
-    if !data::is_aswd(suffix) {
-        return Verdict::Refused(Refusal::Section);
+    if !data::is_aswd(prefix) || !data::is_aswd(suffix) {
+        return Err(Refusal::Section);
     }
     if !texts::is_word(word) {
-        return Verdict::Refused(Refusal::Text);
+        return Err(Refusal::Text);
     }
-    if both_accept(prefix, suffix, word) {
-        Verdict::Yes
-    } else {
-        Verdict::No
-    }
+    Ok(both_accept(prefix, suffix, word))
 }

@@ -1,7 +1,8 @@
 -- 01, Lookup: Adding. The lines of a text, what stands before a "#", fields parted by blanks, and a word without its outer quote marks.
 -- Assumes nothing.
-use Rattle.std.specs.Prelude.{ℕ, zero, suc, ◌+◌, ◌-◌, ◌≤◌, ◌<◌, ◌≡◌, refl, Bool, not, List, [], ◌∷◌, ◌++◌, eqb, leb, length, get_or, take, drop}
+use Rattle.std.specs.Prelude.{ℕ, zero, suc, ◌+◌, ◌-◌, ◌<◌, ◌≡◌, refl, Bool, not, List, [], ◌∷◌, ◌++◌, eqb, leb, length, get_or, take, drop}
 use Rattle.std.proofs.Common.{arith, sym, ap, ◌∙◌, take-suc, ne_eqb}
+use Rattle.std.proofs.Math.Seq.{take-length}
 use Rattle.texts.specs.Choice.{when◌then◌else◌}
 use Rattle.texts.specs.Lists.{place}
 use Rattle.texts.specs.Text.{blank, is}
@@ -84,19 +85,20 @@ end_other (x ∷ xs) y ne = let ih = end_other xs y ne in ap (on_tail x) ih ∙ 
     more x [] y = refl
     more x (z ∷ zs) y = refl
 
--- the word up to byte n, by its last byte
-module _ (w : List ℕ) (n : ℕ) (some : 0 < n) (inside : n ≤ length w) where
-  last_byte_lem : take n w ≡ take (n - 1) w ++ (get_or w (n - 1) 0 ∷ [])
+-- a word that has a byte, by its last byte; and one that has none
+module _ (w : List ℕ) (some : 0 < length w) where
+  last_byte_lem : w ≡ take (length w - 1) w ++ (get_or w (length w - 1) 0 ∷ [])
   last_byte_lem =
-      let e : suc (n - 1) ≡ n = omega arith in
-      ap (λ (k : ℕ). take k w) (sym e) ∙ take-suc w (n - 1) 0 (omega arith)
+      let e : suc (length w - 1) ≡ length w = omega arith in
+      sym (take-length w) ∙ ap (λ (k : ℕ). take k w) (sym e) ∙ take-suc w (length w - 1) 0 (omega arith)
 
-  pub open_turn : get_or w (n - 1) 0 ≡ 34 → open_end (take n w) ≡ open_end (take (n - 1) w)
-  open_turn e = ap open_end (last_byte_lem ∙ ap (λ (b : ℕ). take (n - 1) w ++ (b ∷ [])) e) ∙ end_quote (take (n - 1) w)
+  pub open_turn : get_or w (length w - 1) 0 ≡ 34 → open_end w ≡ open_end (take (length w - 1) w)
+  open_turn e = ap open_end (last_byte_lem ∙ ap (λ (b : ℕ). take (length w - 1) w ++ (b ∷ [])) e) ∙ end_quote (take (length w - 1) w)
 
-  pub open_stop : (get_or w (n - 1) 0 ≡ 34 → ⊥) → open_end (take n w) ≡ take n w
-  open_stop ne = ap open_end last_byte_lem ∙ end_other (take (n - 1) w) (get_or w (n - 1) 0) ne ∙ sym last_byte_lem
+  pub open_stop : (get_or w (length w - 1) 0 ≡ 34 → ⊥) → open_end w ≡ w
+  open_stop ne = ap open_end last_byte_lem ∙ end_other (take (length w - 1) w) (get_or w (length w - 1) 0) ne ∙ sym last_byte_lem
 
-pub open_none : (w : List ℕ) (n : ℕ) → n ≤ 0 → open_end (take n w) ≡ []
+pub open_none : (w : List ℕ) → length w < 1 → open_end w ≡ w
 unfolding open_end
-open_none w n h = let e : n ≡ 0 = omega arith in rw e
+open_none [] h = refl
+open_none (x ∷ xs) h = absurd (omega arith)

@@ -4,53 +4,57 @@
 #![tactic(auto)]
 
 ghost use Rattle.std.specs.Prelude.{◌≡◌, ◌≤◌, ◌<◌, length, drop};
+ghost use Rattle.std.specs.Iterator.{YieldsFirstRef, item_count};
 ghost use Rattle.texts.specs.Lists.{place};
 ghost use Rattle.texts.specs.Text.{blank};
-ghost use Rattle.lines.specs.Lines.{first_line, after_line, content as content_of, ink, inked as inked_of, field as field_of, after_field, is_empty, unquoted, open_end, stripped};
+ghost use Rattle.lines.specs.Lines.{first_line, after_line, content as content_of, ink, inked as inked_of, field as field_of, fields, after_field, is_empty, unquoted, open_end, stripped, lines};
+ghost use Rattle.lines.specs.Left.{fields_left, lines_left};
 
 // The first line of a text.
+#[tactic(auto, unfolding(crate::specs::Lines::first_line))]
 pub fn first_line(text: &[u8]) -> &[u8]
     ensures { result.now ≡ first_line text.now }
 {
-    records::head(text, texts::find(text, 10))
+    records::head(text, texts::find(text, b'\n'))
+}
+
+// What stands behind the end of the first line.
+#[tactic(auto, unfolding(crate::specs::Lines::after_line))]
+fn after_line(text: &[u8]) -> &[u8]
+    ensures { result.now ≡ after_line text.now }
+{
+    let end = records::tail(text, texts::find(text, b'\n'));
+    records::tail(end, 1)
 }
 
 // A line cut at "#".
+#[tactic(auto, unfolding(crate::specs::Lines::content))]
 pub fn content(line: &[u8]) -> &[u8]
     ensures { result.now ≡ content_of line.now }
 {
-    records::head(line, texts::find(line, 35))
+    records::head(line, texts::find(line, b'#'))
 }
 
 // The place of the first blank, the length where there is none.
 fn find_blank(s: &[u8]) -> usize
     ensures { result ≡ place blank s.now }
 {
-    let mut i = 0;
-    while i < s.len() {
-        if texts::is_blank(s[i]) {
-            return i;
-        }
-        i += 1;
-    }
-    i
+    s.iter()
+        .position(|&b| texts::is_blank(b))
+        .unwrap_or(s.len())
 }
 
 // The place of the first byte that is no blank.
 fn find_ink(s: &[u8]) -> usize
     ensures { result ≡ place ink s.now }
 {
-    let mut i = 0;
-    while i < s.len() {
-        if !texts::is_blank(s[i]) {
-            return i;
-        }
-        i += 1;
-    }
-    i
+    s.iter()
+        .position(|&b| !texts::is_blank(b))
+        .unwrap_or(s.len())
 }
 
 // Whether there is nothing but blanks.
+#[tactic(auto, unfolding(crate::specs::Lines::is_empty))]
 pub fn is_empty(s: &[u8]) -> bool
     ensures { result ≡ is_empty s.now }
 {
@@ -58,6 +62,7 @@ pub fn is_empty(s: &[u8]) -> bool
 }
 
 // From the first field on.
+#[tactic(auto, unfolding(crate::specs::Lines::inked))]
 fn inked(s: &[u8]) -> &[u8]
     ensures { result.now ≡ inked_of s.now }
 {
@@ -65,6 +70,7 @@ fn inked(s: &[u8]) -> &[u8]
 }
 
 // The first field.
+#[tactic(auto, unfolding(crate::specs::Lines::field))]
 pub fn field(s: &[u8]) -> &[u8]
     ensures { result.now ≡ field_of s.now }
 {
@@ -73,6 +79,7 @@ pub fn field(s: &[u8]) -> &[u8]
 }
 
 // What stands behind the first field.
+#[tactic(auto, unfolding(crate::specs::Lines::after_field))]
 pub fn after_field(s: &[u8]) -> &[u8]
     ensures { result.now ≡ after_field s.now }
 {
@@ -102,35 +109,91 @@ pub fn line_end(text: &[u8], at: usize) -> usize
     text.len()
 }
 
+// The fields that are left of a line.
+#[derive(Drop)]
+pub struct Fields<'a> {
+    rest: &'a [u8],
+}
+
+impl<'a> Fields<'a> {
+    pub fn of(line: &'a [u8]) -> Fields<'a>
+        ensures { fields_left result ≡ fields line.now }
+    {
+        Fields { rest: line }
+    }
+}
+
+impl<'a> Iterator for Fields<'a> {
+    type Item = &'a [u8];
+
+    ghost next_gives = { YieldsFirstRef fields_left };
+
+    ghost remaining = { item_count fields_left };
+
+    #[tactic(auto, using(crate::specs::Laws::Turns::fields_none, crate::specs::Laws::Turns::fields_more))]
+    fn next(&mut self) -> Option<&'a [u8]> {
+        let line = self.rest;
+        if is_empty(line) {
+            return None;
+        }
+        self.rest = after_field(line);
+        Some(field(line))
+    }
+}
+
+// The lines that are left of a text.
+#[derive(Drop)]
+pub struct Lines<'a> {
+    rest: &'a [u8],
+}
+
+impl<'a> Lines<'a> {
+    pub fn of(text: &'a [u8]) -> Lines<'a>
+        ensures { lines_left result ≡ lines text.now }
+    {
+        Lines { rest: text }
+    }
+}
+
+impl<'a> Iterator for Lines<'a> {
+    type Item = &'a [u8];
+
+    ghost next_gives = { YieldsFirstRef lines_left };
+
+    ghost remaining = { item_count lines_left };
+
+    #[tactic(auto, using(crate::specs::Laws::Turns::lines_none, crate::specs::Laws::Turns::lines_first))]
+    fn next(&mut self) -> Option<&'a [u8]> {
+        let text = self.rest;
+        if text.is_empty() {
+            return None;
+        }
+        self.rest = after_line(text);
+        Some(first_line(text))
+    }
+}
+
 // The place of the first byte that is no quote mark.
 fn find_unquoted(s: &[u8]) -> usize
     ensures { result ≡ place unquoted s.now }
 {
-    let mut i = 0;
-    while i < s.len() {
-        if s[i] != 34 {
-            return i;
-        }
-        i += 1;
-    }
-    i
+    s.iter().position(|&b| b != b'"').unwrap_or(s.len())
 }
 
 // A word without the quote marks at its end.
-fn open_end(s: &[u8]) -> &[u8]
-    ensures { result.now ≡ open_end s.now }
+#[tactic(auto, using(crate::specs::Lines::open_turn, crate::specs::Lines::open_stop, crate::specs::Lines::open_none))]
+fn open_end(word: &[u8]) -> &[u8]
+    ensures { result.now ≡ open_end word.now }
 {
-    let mut n = s.len();
-    while 0 < n {
-        if s[n - 1] != 34 {
-            return records::head(s, n);
-        }
-        n -= 1;
+    let mut s = word;
+    while let [front @ .., b'"'] = s {
+        s = front;
     }
-    records::head(s, 0)
+    s
 }
 
 // A word stripped of all outer quote marks.
+#[tactic(auto, unfolding(crate::specs::Lines::stripped))]
 pub fn strip(word: &[u8]) -> &[u8]
     ensures { result.now ≡ stripped word.now }
 {

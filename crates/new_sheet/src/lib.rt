@@ -6,20 +6,20 @@ ghost use Rattle.std.specs.Prelude.{◌≡◌};
 ghost use Rattle.answers.specs.Told.{told_done};
 ghost use Rattle.new_sheet.specs.NewSheet.{new_sheet, new_bytes};
 
-use answers::{Done, Refusal};
+use answers::Refusal;
 
-pub fn new_sheet(sheet: &mut [u8], version: u32) -> Done
+pub fn new_sheet(sheet: &mut [u8], version: u32) -> Result<(), Refusal>
     ensures result_value { told_done result ≡ new_sheet sheet.old version }
     ensures sheet_after { sheet.new ≡ new_bytes sheet.old version }
 {
     if !utterance::is_sheet_length(sheet.len()) {
-        return Done::Refused(Refusal::Unsound);
+        return Err(Refusal::Unsound);
     }
     if !versions::is_sheet_version(version) {
-        return Done::Refused(Refusal::Version);
+        return Err(Refusal::Version);
     }
     let mut head = [0u8; 64];
     head[1] = version as u8;
     records::copy_in(sheet, 0, &head);
-    Done::Accepted
+    Ok(())
 }

@@ -6,15 +6,15 @@ ghost use Rattle.std.specs.Prelude.{◌≡◌};
 ghost use Rattle.answers.specs.Told.{told_done};
 ghost use Rattle.new_store.specs.NewStore.{new_store, new_bytes};
 
-use answers::{Done, Refusal};
+use answers::Refusal;
 
-pub fn new_store(store: &mut [u8]) -> Done
+pub fn new_store(store: &mut [u8]) -> Result<(), Refusal>
     ensures result_value { told_done result ≡ new_store store.old }
     ensures store_after { store.new ≡ new_bytes store.old }
 {
     if !store::is_store_length(store.len()) {
-        return Done::Refused(Refusal::Unsound);
+        return Err(Refusal::Unsound);
     }
     records::clear(store, 0, 512);
-    Done::Accepted
+    Ok(())
 }

@@ -74,7 +74,7 @@ pub extern "C" fn pronouncer_syllabify(phones: &[u8], marks: &mut [u8]) -> Answe
     ensures value { result ≡ syllabify phones.now marks.old }
     ensures marks_after { marks.new ≡ syllabified phones.now marks.old }
 {
-    answers::told_marked(syllabify::syllabify(phones, marks))
+    answers::told_count(syllabify::syllabify(phones, marks))
 }
 
 // aswd.p, aswd.s, a word
@@ -163,7 +163,7 @@ pub extern "C" fn pronouncer_phone_string(sheet: &[u8], out: &mut [u8]) -> Answe
     ensures value { result ≡ phone_string sheet.now out.old }
     ensures out_after { out.new ≡ string_after sheet.now out.old }
 {
-    answers::told_joined(phonestring::phone_string(sheet, out))
+    answers::told_count(phonestring::phone_string(sheet, out))
 }
 
 // lex.phones, lex.index, lex.data, lts.phones, lts.index, lts.model, a store, a sheet, a word, a tag
@@ -216,10 +216,7 @@ pub extern "C" fn pronouncer_write_setting(
 pub extern "C" fn pronouncer_is_vowel(phone: &[u8]) -> Answer
     ensures { result ≡ accepted (bit (is_vowel phone.now)) 0 }
 {
-    if phoneset::is_vowel(phone) {
-        return answers::accepted(1, 0);
-    }
-    answers::accepted(0, 0)
+    answers::accepted(phoneset::is_vowel(phone) as u32, 0)
 }
 
 // A phone's stress as `kind`, 0 where it has none, and the length of its bare phone as `value`, by version 1 of a sheet. Not

@@ -6,37 +6,31 @@ ghost use Rattle.std.specs.Prelude.{◌≡◌};
 ghost use Rattle.answers.specs.Told.{told_shown};
 ghost use Rattle.read_settings.specs.ReadSettings.{shown_if, read_settings};
 
-use answers::{Done, Refusal, Shown};
+use answers::{Refusal, Shown};
 
 // What a version shows of a store that is sound for it. The one product of the library stands here.
-fn shown(settings: &[u8], version: u32, show: f32) -> Shown
+fn shown(settings: &[u8], version: u32, show: f32) -> Result<Shown, Refusal>
     ensures { told_shown result ≡ shown_if version settings.now show }
 {
     if !settings::all_fit(settings, version) {
-        return Shown::Refused(Refusal::Range);
+        return Err(Refusal::Range);
     }
     if !values::is_stretch(show) {
-        return Shown::Refused(Refusal::Range);
+        return Err(Refusal::Range);
     }
     let pitch = values::whole_in(settings::pitch(settings));
     let stretch = values::real_in(settings::stretch(settings));
     let rack = stretch * show;
     if version != 2 {
-        return Shown::First(pitch, stretch, rack);
+        return Ok(Shown::First(pitch, stretch, rack));
     }
-    Shown::Second(
-        pitch,
-        stretch,
-        values::whole_in(settings::level(settings)),
-        rack,
-    )
+    let level = values::whole_in(settings::level(settings));
+    Ok(Shown::Second(pitch, stretch, level, rack))
 }
 
-pub fn read_settings(settings: &[u8], version: u32, show: f32) -> Shown
+pub fn read_settings(settings: &[u8], version: u32, show: f32) -> Result<Shown, Refusal>
     ensures { told_shown result ≡ read_settings version settings.now show }
 {
-    match sound_settings::checked(settings, version) {
-        Done::Refused(r) => Shown::Refused(r),
-        Done::Accepted => shown(settings, version, show),
-    }
+    sound_settings::checked(settings, version)?;
+    shown(settings, version, show)
 }

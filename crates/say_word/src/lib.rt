@@ -7,7 +7,7 @@ ghost use Rattle.answers.specs.Told.{told_said};
 ghost use Rattle.pipeline_spec.specs.Pronounced.{tables};
 ghost use Rattle.say_word.specs.SayWord.{say_word, sheet_after};
 
-use answers::{Refusal, Said};
+use answers::Refusal;
 
 pub fn say_word(
     phones: &[u8],
@@ -20,7 +20,7 @@ pub fn say_word(
     sheet: &mut [u8],
     word: &[u8],
     tag: &[u8],
-) -> Said
+) -> Result<usize, Refusal>
     ensures result_value { told_said result ≡ say_word (tables phones.now index.now dat.now sounds.now starts.now model.now) store.now sheet.old word.now tag.now }
     ensures sheet_after { sheet.new ≡ sheet_after (tables phones.now index.now dat.now sounds.now starts.now model.now) store.now sheet.old word.now tag.now }
 {
@@ -35,13 +35,13 @@ pub fn say_word(
         &mut places,
         &mut spots,
     ) {
-        return Said::Refused(Refusal::Section);
+        return Err(Refusal::Section);
     }
-    if !texts::both(sound_store::is_sound(store), sound_sheet::is_sound(sheet)) {
-        return Said::Refused(Refusal::Unsound);
+    if !(sound_store::is_sound(store) && sound_sheet::is_sound(sheet)) {
+        return Err(Refusal::Unsound);
     }
-    if !texts::both(texts::is_word(word), texts::is_word(tag)) {
-        return Said::Refused(Refusal::Text);
+    if !(texts::is_word(word) && texts::is_word(tag)) {
+        return Err(Refusal::Text);
     }
     let mut room = [0u8; 1536];
     pipeline::say(

@@ -3,9 +3,13 @@
 use Rattle.std.specs.Prelude.{ℕ, ◌+◌, ◌≤◌, ◌<◌, ◌≡◌, refl, Bool, true, false, ◌||◌, List, [], ◌∷◌, ◌++◌, length, get_or, take, drop}
 use Rattle.std.proofs.Common.{add-one, not-suc-le-zero, sym, append_assoc, append-nil, drop_of_length-le, drop-cons, take-suc}
 use Rattle.texts.specs.Choice.{when◌then◌else◌, bit}
-use Rattle.texts.specs.Lists.{place}
+use Rattle.texts.specs.Lists.{place, place_turn, place_stop, place_end}
+use Rattle.cells.specs.Cells.{length_phones_of}
 use Rattle.phoneset.specs.Phones.{is_vowel}
 use Rattle.syllabify.specs.Syllables.{joined, cut_at, cut, marks}
+
+-- the laws of a loop to the first vowel
+pub ruleset vowels_ahead = (place_turn, place_stop, place_end, length_phones_of)
 
 -- the rules, where a phone follows
 pub cut_more : (onsets : List (List ℕ)) (seen : Bool) (rest : List (List ℕ)) → 0 < length rest

@@ -1,6 +1,6 @@
 -- 01, syllabify as a call: its refusals 3, 7 and 9, its answer, and the marks at exit.
 -- Assumes nothing.
-use Rattle.std.specs.Prelude.{ℕ, ◌+◌, false, not, ◌||◌, List, ◌++◌, ltb, length, drop}
+use Rattle.std.specs.Prelude.{ℕ, false, not, ◌||◌, List, ◌++◌, ltb, length, drop}
 use Rattle.texts.specs.Choice.{when◌then◌else◌}
 use Rattle.answers.specs.declared.Answer.{Answer}
 use Rattle.answers.specs.Told.{refused, accepted, written}

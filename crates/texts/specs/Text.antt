@@ -88,7 +88,7 @@ eq_same xs ys e = rw e (same_refl ys)
 pub ne_same : (xs ys : List ℕ) → (xs ≡ ys → ⊥) → same xs ys ≡ false
 ne_same xs ys h = is_false (same xs ys) (λ e. h (same_true xs ys e))
 
--- one law for each turn of the loop that compares two strings
+-- two strings compared from a place on
 module _ (a b : List ℕ) (i : ℕ) where
   pub smaller_turn : i < length a → i < length b → get_or a i 0 ≡ get_or b i 0 → smaller (drop i a) (drop i b) ≡ smaller (drop (i + 1) a) (drop (i + 1) b)
   unfolding smaller

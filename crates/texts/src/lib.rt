@@ -55,17 +55,7 @@ pub fn same(a: &[u8], b: &[u8]) -> bool
 pub fn smaller(a: &[u8], b: &[u8]) -> bool
     ensures { result ≡ before a.now b.now }
 {
-    let mut i = 0;
-    while i < a.len() {
-        if b.len() <= i {
-            return false;
-        }
-        if a[i] != b[i] {
-            return a[i] < b[i];
-        }
-        i += 1;
-    }
-    i < b.len()
+    a < b
 }
 
 // The place of the first byte b, the length where there is none.

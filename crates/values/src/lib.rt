@@ -5,74 +5,63 @@
 ghost use Rattle.std.specs.Prelude.{◌≡◌, ◌&&◌};
 ghost use Rattle.std.specs.Float.{binary32};
 ghost use Rattle.std.specs.Float.Ieee.{of_bits, to_bits};
-ghost use Rattle.values.specs.Values.{whole_of, bits_of_whole, setting_of, bits_of, is_between, is_stretch, fits as fits_of, known_as, is_known, whole_in, real_in};
+ghost use Rattle.values.specs.Values.{whole_of, bits_of_whole, setting_of, bits_of, is_stretch, fits as fits_of, known_as, whole_in, real_in};
+
+use std::num::{f32_from_bits_with_nan, f32_to_bits_with_nan};
 
 // As the original's `Value` has it.
-#[derive(Clone, Copy)]
+#[derive(Clone, Copy, Debug, PartialEq)]
 pub enum Setting {
     Whole(i32),
     Real(f32),
 }
 
-// The settings that some version knows, and any other.
-#[derive(Clone, Copy)]
+// The settings that some version knows.
+#[derive(Clone, Copy, Debug, PartialEq, Eq)]
 pub enum Known {
     Pitch,
     Stretch,
     Level,
-    Other,
 }
 
 // The i32 whose bits these are.
+#[tactic(auto, unfolding(crate::specs::Values::whole_of))]
 fn whole_of(bits: u32) -> i32
     ensures { result ≡ whole_of bits }
 {
-    if bits < 2147483648 {
-        bits as i32
-    } else {
-        -1 - (4294967295 - bits) as i32
-    }
+    bits.cast_signed()
 }
 
 // The bits of an i32.
 pub fn bits_of_whole(n: i32) -> u32
     ensures { result ≡ bits_of_whole n }
 {
-    if n < 0 {
-        4294967295 - (-1 - n) as u32
-    } else {
-        n as u32
-    }
+    n.cast_unsigned()
 }
 
 // The f32 whose bits these are; every pattern of a NaN is the NaN.
 pub fn real_of(bits: u32) -> f32
     ensures { result ≡ of_bits binary32 bits }
 {
-    if 2139095040 < bits % 2147483648 {
-        return 0.0 / 0.0;
-    }
-    f32::from_bits(bits)
+    f32_from_bits_with_nan(bits)
 }
 
 // The bits of an f32; those of a NaN are never asked for.
 pub fn bits_of_real(x: f32) -> u32
     ensures { result ≡ to_bits binary32 x }
 {
-    if x != x {
-        return 2143289344;
-    }
-    f32::to_bits(x)
+    f32_to_bits_with_nan(x)
 }
 
 // The value of a kind and 32 bits. Of neither kind, it is a NaN, which no setting takes.
+#[tactic(auto, using(crate::specs::Laws::Bits::made_nan), unfolding(crate::specs::Values::setting_of))]
 pub fn setting_of(kind: u32, bits: u32) -> Setting
     ensures { result ≡ setting_of kind bits }
 {
     match kind {
         1 => Setting::Whole(whole_of(bits)),
         2 => Setting::Real(real_of(bits)),
-        _ => Setting::Real(0.0 / 0.0),
+        _ => Setting::Real(f32::NAN),
     }
 }
 
@@ -86,66 +75,35 @@ pub fn bits_of(value: Setting) -> u32
     }
 }
 
-fn is_between(low: i32, n: i32, high: i32) -> bool
-    ensures { result ≡ is_between low n high }
-{
-    if low <= n { n <= high } else { false }
-}
-
 // Whether x is in stretch's range; a NaN is not.
 pub fn is_stretch(x: f32) -> bool
     ensures { result ≡ is_stretch x }
 {
-    if 0.25 <= x { x <= 4.0 } else { false }
+    (0.25..=4.0).contains(&x)
 }
 
 // Whether a known setting may have this value.
 pub fn fits(known: Known, value: Setting) -> bool
     ensures { result ≡ fits_of known value }
 {
-    match value {
-        Setting::Whole(n) => match known {
-            Known::Pitch => is_between(50, n, 400),
-            Known::Level => is_between(0, n, 100),
-            Known::Stretch => false,
-            Known::Other => false,
-        },
-        Setting::Real(x) => match known {
-            Known::Stretch => is_stretch(x),
-            Known::Pitch => false,
-            Known::Level => false,
-            Known::Other => false,
-        },
+    match (known, value) {
+        (Known::Pitch, Setting::Whole(n)) => (50..=400).contains(&n),
+        (Known::Stretch, Setting::Real(x)) => is_stretch(x),
+        (Known::Level, Setting::Whole(n)) => (0..=100).contains(&n),
+        _ => false,
     }
 }
 
 // Which setting a reader of this version knows by this name.
-pub fn which(version: u32, name: &[u8]) -> Known
+#[tactic(auto, unfolding(crate::specs::Values::known_as, texts::specs::Text::same))]
+pub fn which(version: u32, name: &[u8]) -> Option<Known>
     ensures { result ≡ known_as version name.now }
 {
-    if texts::same(b"pitch", name) {
-        return Known::Pitch;
-    }
-    if texts::same(b"stretch", name) {
-        return Known::Stretch;
-    }
-    if version != 2 {
-        return Known::Other;
-    }
-    if texts::same(b"level", name) {
-        return Known::Level;
-    }
-    Known::Other
-}
-
-pub fn is_known(known: Known) -> bool
-    ensures { result ≡ is_known known }
-{
-    match known {
-        Known::Pitch => true,
-        Known::Stretch => true,
-        Known::Level => true,
-        Known::Other => false,
+    match name {
+        b"pitch" => Some(Known::Pitch),
+        b"stretch" => Some(Known::Stretch),
+        b"level" if version == 2 => Some(Known::Level),
+        _ => None,
     }
 }
 

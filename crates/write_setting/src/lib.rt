@@ -10,45 +10,54 @@ ghost use Rattle.settings_spec.specs.Settings.{is_sound, record_of, value_at};
 ghost use Rattle.write_setting.specs.WriteSetting.{written_if, write_setting, settings_after};
 ghost use Rattle.write_setting.specs.Given.{given_after};
 
-use answers::{Done, Refusal};
+use answers::Refusal;
 use values::Setting;
 
 // Puts a value into the record of a name, in a store that is sound.
-fn put(settings: &mut [u8], version: u32, name: &[u8], value: Setting) -> Done
+fn put(settings: &mut [u8], version: u32, name: &[u8], value: Setting) -> Result<(), Refusal>
     requires { is_sound settings.old ≡ true }
     ensures result_value { told_done result ≡ written_if version settings.old name.now value }
     ensures settings_after { settings.new ≡ written (written_if version settings.old name.now value) settings.old (put32 settings.old (value_at (record_of settings.old name.now)) (bits_of value)) }
 {
     let known = values::which(version, name);
     if !values::is_known(known) {
-        return Done::Refused(Refusal::Records);
+        return Err(Refusal::Records);
     }
     let i = settings::record_of(settings, name);
     if i == 0 {
-        return Done::Refused(Refusal::Records);
+        return Err(Refusal::Records);
     }
     if !settings::all_fit(settings, version) {
-        return Done::Refused(Refusal::Range);
+        return Err(Refusal::Range);
     }
     if !values::fits(known, value) {
-        return Done::Refused(Refusal::Range);
+        return Err(Refusal::Range);
     }
     records::put_u32(settings, 32 * i + 19, values::bits_of(value));
-    Done::Accepted
+    Ok(())
 }
 
-pub fn write_setting(settings: &mut [u8], version: u32, name: &[u8], value: Setting) -> Done
+pub fn write_setting(
+    settings: &mut [u8],
+    version: u32,
+    name: &[u8],
+    value: Setting,
+) -> Result<(), Refusal>
     ensures result_value { told_done result ≡ write_setting version settings.old name.now value }
     ensures settings_after { settings.new ≡ settings_after version settings.old name.now value }
 {
-    match sound_settings::checked(settings, version) {
-        Done::Refused(r) => Done::Refused(r),
-        Done::Accepted => put(settings, version, name, value),
-    }
+    sound_settings::checked(settings, version)?;
+    put(settings, version, name, value)
 }
 
 // The same with a value handed in as a kind (1 whole, 2 float) and 32 bits.
-pub fn write_given(settings: &mut [u8], version: u32, name: &[u8], kind: u32, bits: u32) -> Done
+pub fn write_given(
+    settings: &mut [u8],
+    version: u32,
+    name: &[u8],
+    kind: u32,
+    bits: u32,
+) -> Result<(), Refusal>
     ensures result_value { told_done result ≡ write_setting version settings.old name.now (setting_of kind bits) }
     ensures settings_after { settings.new ≡ given_after version settings.old name.now kind bits }
 {

@@ -2,22 +2,21 @@
 -- Assumes nothing.
 use Prim.Native.Nat.{ℕ, zero, suc, ◌+◌, ◌-◌, ◌≤◌, ◌<◌}
 use native.Mathlib.Omega.{arith}
-use Rattle.std.specs.Prelude.{List, eqb, ltb}
+use Rattle.std.specs.Prelude.{List, eqb, ltb, Some, None, Result, Ok, Err}
 use borrow.Author.Tests.{ltb-true}
 use Rattle.texts.specs.Choice.{cases}
 use Rattle.texts.specs.Text.{same}
-use Rattle.compiled_spec.specs.declared.Chosen.{Chosen}
-use Rattle.compiled_spec.specs.declared.Chosen.TheVariants.{Damaged, Missing, Entry}
+use Rattle.compiled_spec.specs.declared.Damaged.{Damaged}
 use Rattle.compiled_spec.specs.Entries.{tag_of, word_of, is_whole, count, entry_at}
-use Rattle.compiled_spec.specs.Search.{search, tagged, from_place, on_place, chosen}
+use Rattle.compiled_spec.specs.Search.{Chosen, this, search, tagged, from_place, on_place, chosen}
 
 abbrev pub Below : ℕ → Chosen → Type 0
-Below n Damaged = Unit {0}
-Below n Missing = Unit {0}
-Below n (Entry i) = i < n
+Below n (Err e) = Unit {0}
+Below n (Ok None) = Unit {0}
+Below n (Ok (Some i)) = i < n
 
 module _ (index dat word : List ℕ) (tag : ℕ) where
-  tagged_below : (lo n i : ℕ) → lo < count index → i + n ≤ count index → Below (count index) (tagged index dat word tag lo n i)
+  tagged_below : (lo n i : ℕ) → lo < count index → i + n ≤ count index → Below (count index) (this (tagged index dat word tag lo n i))
   unfolding tagged
   tagged_below lo zero i h k = h
   tagged_below lo (suc n) i h k =
@@ -44,7 +43,6 @@ module _ (index dat word : List ℕ) (tag : ℕ) where
   unfolding chosen
   below = go (search index dat word (count index) 0 (count index))
     where
-      go : (c : Chosen) → Below (count index) (on_place index dat word tag c)
-      go Damaged = tt
-      go Missing = tt
-      go (Entry lo) = from_below lo
+      go : (c : Result ℕ Damaged) → Below (count index) (on_place index dat word tag c)
+      go (Err e) = tt
+      go (Ok lo) = from_below lo

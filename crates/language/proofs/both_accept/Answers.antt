@@ -1,16 +1,18 @@
 -- `language::both_accept` meets its contract: no start, the first machine, the second. Assumes nothing.
-use mathlib.Core.Path.{sym, ◌∙◌}
+use Rattle.std.proofs.Common.{sym, ◌∙◌}
+use Rattle.std.proofs.lemmas.Iterator.{YieldsList-from_slice}
+use Rattle.std.proofs.lemmas.Iterator.Adapters.{YieldsList-from_rev_slice}
 use Rattle.language.proofs.both_accept.Goals as goal
 
-pub returns-in_default : goal.returns-in_default
-returns-in_default c = rw (sym c.step.ensures ∙ c.in_default.is)
+pub returns-then-accepts : goal.returns-then-accepts
+returns-then-accepts c =
+    let s = c.args.word.now in
+    let f = c.accepts.ensures s (YieldsList-from_slice s c.iter.ensures.rest).runs in
+    let b = c.accepts-then-accepts.ensures _ (YieldsList-from_rev_slice s cc).runs in
+    rw (sym c.step.ensures ∙ c.in-Some.is, sym f ∙ c.if-accepts.true) b
 
-pub returns-then-not-accepts_forwards : goal.returns-then-not-accepts_forwards
-returns-then-not-accepts_forwards c =
-    let e = sym c.step.ensures ∙ c.in-To.is in
-    rw (e, sym c.accepts_forwards.ensures ∙ c.if-not-accepts_forwards.true)
-
-pub returns : goal.returns
-returns c =
-    let e = sym c.step.ensures ∙ c.in-To.is in
-    rw (e, sym c.accepts_forwards.ensures ∙ c.if-not-accepts_forwards.false) c.accepts_backwards.ensures
+pub returns-else-accepts : goal.returns-else-accepts
+returns-else-accepts c =
+    let s = c.args.word.now in
+    let f = c.accepts.ensures s (YieldsList-from_slice s c.iter.ensures.rest).runs in
+    rw (sym c.step.ensures ∙ c.in-Some.is, sym f ∙ c.if-accepts.false) c.if-accepts.false

@@ -1,19 +1,14 @@
--- `lines::find_blank` meets its contract: no byte passed is a blank, so the bytes left decide. Assumes nothing.
+-- `lines::find_blank` meets its contract: `position` is the library's. Assumes nothing.
+use Rattle.std.proofs.Common.{rules, tests, ◌∙◌, ap, length}
+use Rattle.std.proofs.lemmas.Iterator.{YieldsList-from_slice}
+use Rattle.std.proofs.lemmas.Iterator.Search.{position_from_yields_List}
+use Rattle.std.specs.Option.{unwrap_or}
+use Rattle.texts.specs.Laws.Library.{place_unwrap}
 use Rattle.texts.specs.Text.{blank}
-use Rattle.texts.specs.Lists.{place, place_turn, place_stop, place_end}
-use lib.ListN.{length, drop}
-use mathlib.Core.Path.{◌≡◌, sym, ◌∙◌}
-use native.Mathlib.Omega.{arith}
-use Prim.Native.Nat.{◌≤◌, ◌-◌, ◌+◌}
 use Rattle.lines.proofs.find_blank.Goals as goal
 
-pub returns-then-is_blank : goal.returns-then-is_blank
-returns-then-is_blank c =
-    let e = place_stop blank c.args.s.now c.loop-i.i 0 (omega arith) (sym c.is_blank.ensures ∙ c.if-is_blank.true) in omega (arith, c.loop-i.invariant.1)
-
-pub loop-i-preserved : goal.loop-i-preserved
-loop-i-preserved c =
-    let e = place_turn blank c.args.s.now c.loop-i.i 0 (omega arith) (sym c.is_blank.ensures ∙ c.if-is_blank.false) in (omega arith, omega (arith, c.loop-i.invariant.1))
-
 pub returns : goal.returns
-returns c = let e = place_end blank c.args.s.now c.loop-i.i (omega arith) in omega (arith, c.loop-i.invariant.1)
+returns c =
+    let s = c.args.s.now in
+    let e = position_from_yields_List blank _ _ c.position.result c.position.ensures.ran (YieldsList-from_slice s cc) (λ x b q k. search (rules, tests)) in
+    c.unwrap_or.ensures ∙ ap (λ o. unwrap_or o (length s)) e ∙ place_unwrap blank s

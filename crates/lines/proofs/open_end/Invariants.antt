@@ -1,16 +1,10 @@
--- `lines::open_end` meets its contract: the bytes behind n are quote marks, so those before it decide. Assumes nothing.
-use Rattle.lines.specs.Lines.{open_end, open_turn, open_stop, open_none}
-use lib.Seq.{take-length}
-use lib.ListN.{length, take}
-use mathlib.Core.Path.{◌≡◌, sym, ap, ◌∙◌}
-use native.Mathlib.Omega.{arith}
-use Prim.Native.Nat.{◌≤◌}
+-- `lines::open_end` meets its contract: what went was quote marks, so what is left decides. Assumes nothing.
+use Rattle.std.proofs.Common.{◌≡◌, length}
+use Rattle.lines.specs.Lines.{open_end}
 use Rattle.lines.proofs.open_end.Given as goal
 
-abbrev pub invariant-loop-n : goal.invariant-loop-n
-invariant-loop-n l =
-    (l.n ≤ length l.s) × (open_end l.s ≡ open_end (take l.n l.s))
+abbrev pub invariant-loop-s : goal.invariant-loop-s
+invariant-loop-s l = open_end l.word ≡ open_end l.s
 
-abbrev pub decreases-loop-n : goal.decreases-loop-n
-decreases-loop-n l =
-    l.n
+abbrev pub decreases-loop-s : goal.decreases-loop-s
+decreases-loop-s l = length l.s

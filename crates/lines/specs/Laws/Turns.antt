@@ -67,6 +67,16 @@ unfolding lines lines_of
 lines_more x xs =
     ap (λ (r : List (List ℕ)). first_line (x ∷ xs) ∷ r) (enough_lines (length xs) (length (after_line (x ∷ xs))) (after_line (x ∷ xs)) (shorter_line x xs) (omega arith))
 
+-- the same of a text that is empty or not
+pub lines_none : (t : List ℕ) → length t ≤ 0 → lines t ≡ []
+unfolding lines lines_of
+lines_none [] h = refl
+lines_none (x ∷ xs) h = absurd (not-suc-le-zero h)
+
+pub lines_first : (t : List ℕ) → 0 < length t → lines t ≡ first_line t ∷ lines (after_line t)
+lines_first [] h = absurd (not-suc-le-zero h)
+lines_first (x ∷ xs) h = lines_more x xs
+
 -- the fields: none, or the first and those behind it
 pub fields_none : (s : List ℕ) → is_empty s ≡ true → fields s ≡ []
 unfolding fields fields_of

@@ -1,12 +1,13 @@
 -- The tests of Lists and Text by the library's names, in which the contracts of its iterators and operators speak. Assumes nothing.
-use Rattle.std.proofs.Common.{arith, sym, nat_eq, ltb, ltb-false}
-use Rattle.std.specs.Cmp.Lexicographic.{pointwise}
-use Rattle.std.specs.Prelude.{ℕ, ◌≡◌, refl, Bool, List, [], ◌∷◌, length}
+use Rattle.std.proofs.Common.{arith, sym, nat_eq, ltb, ltb-true, ltb-false, ne_eqb}
+use Rattle.std.specs.Cmp.Lexicographic.{pointwise, slice_partial_cmp}
+use Rattle.std.specs.Ordering.{nat_cmp, partial_lt}
+use Rattle.std.specs.Prelude.{ℕ, Some, eqb, ◌≡◌, refl, Bool, List, [], ◌∷◌, length, map}
 use Rattle.std.specs.Option.{unwrap_or}
 use Rattle.std.specs.List.{list_all, list_any, position, position_or_len}
 use Rattle.texts.specs.Choice.{cases}
 use Rattle.texts.specs.Lists.{every, some, place, place_le}
-use Rattle.texts.specs.Text.{same}
+use Rattle.texts.specs.Text.{same, smaller}
 
 module _ {A : Type 0} (f : A → Bool) where
   pub every_list_all : (l : List A) → every f l ≡ list_all f l
@@ -31,6 +32,12 @@ module _ {A : Type 0} (f : A → Bool) where
       (λ e. rw e (sym (place_or_len l)))
       (λ e. rw e (let h = ltb-false (position_or_len f l) (length l) e in let k = place_le f l in let m = place_or_len l in omega arith))
 
+-- a test of each element of a mapped list
+pub every_map : {A B : Type 0} (f : B → Bool) (g : A → B) (l : List A) → every f (map g l) ≡ every (λ x. f (g x)) l
+unfolding every
+every_map f g [] = refl
+every_map f g (x ∷ xs) = rw (every_map f g xs) refl
+
 -- `==` of two slices of bytes
 pub same_pointwise : (a b : List ℕ) → same a b ≡ pointwise nat_eq a b
 unfolding same
@@ -38,3 +45,16 @@ same_pointwise [] [] = refl
 same_pointwise [] (y ∷ ys) = refl
 same_pointwise (x ∷ xs) [] = refl
 same_pointwise (x ∷ xs) (y ∷ ys) = rw (same_pointwise xs ys) refl
+
+-- `<` of two slices of bytes
+pub smaller_lt : (a b : List ℕ) → smaller a b ≡ partial_lt (slice_partial_cmp (λ x y. Some (nat_cmp x y))) a b
+unfolding smaller
+smaller_lt [] [] = refl
+smaller_lt [] (y ∷ ys) = refl
+smaller_lt (x ∷ xs) [] = refl
+smaller_lt (x ∷ xs) (y ∷ ys) =
+    cases (ltb x y)
+    (λ l. let n = ltb-true x y l in rw (l, ne_eqb x y (λ e. omega arith)))
+    (λ l. cases (eqb x y)
+    (λ e. rw (l, e) (smaller_lt xs ys))
+    (λ e. rw (l, e)))
