@@ -16,6 +16,8 @@ ghost use Rattle.utterance_spec.specs.Cuts.{grouped, cut_word, Ended};
 ghost use Rattle.appending.specs.Laws.Grouped.{span};
 ghost use Rattle.appending.specs.Laws.Putting.{phone_item, one_syllable, syllables_from};
 
+use utterance::{Fields, PHONE, SYLLABLE, WORD};
+
 // The place behind the next phone that ends a syllable.
 fn end_of(cuts: &[u8], i: usize) -> usize
     requires { i ≤ length cuts.now }
@@ -77,9 +79,16 @@ fn put_phone(sheet: &mut [u8], n: u16, y: u16, q: u16, a: u16, left: usize, text
     requires { (n < items sheet.old) × (n < 1024) × (length text.now ≤ 47) }
     ensures { sheet.new ≡ put_record 64 sheet.old n (item_bytes (phone_item y q a n left text.now)) }
 {
-    let next = next_or(0, n + 1, left);
-    let follow = next_or(a, n + 1, left);
-    utterance::put_item(sheet, n, 3, 0, next, 0, 0, y, q, follow, 0, text);
+    let phone = Fields {
+        kind: PHONE,
+        next: next_or(0, n + 1, left),
+        parent: y,
+        prev: q,
+        follow: next_or(a, n + 1, left),
+        text,
+        ..Fields::default()
+    };
+    utterance::put_item(sheet, n, &phone);
 }
 
 // The phones i up to e as those of syllable y, from item y + 1 on; phone q stands before them, and phone a behind.
@@ -114,22 +123,17 @@ fn put_syllable(
 {
     let end = k + (e - i) as u16;
     let left = cuts.len() - e;
-    let next = next_or(0, end + 1, left);
     let a = next_or(0, end + 2, left);
-    utterance::put_item(
-        sheet,
-        k,
-        2,
-        cuts[e - 1],
-        next,
-        k + 1,
-        end,
-        w,
-        0,
-        0,
-        0,
-        &cuts[0..0],
-    );
+    let syllable = Fields {
+        kind: SYLLABLE,
+        stress: cuts[e - 1],
+        next: next_or(0, end + 1, left),
+        first: k + 1,
+        last: end,
+        parent: w,
+        ..Fields::default()
+    };
+    utterance::put_item(sheet, k, &syllable);
     put_phones(sheet, k, q, a, phones, i, e);
 }
 
@@ -155,9 +159,15 @@ fn put_word(sheet: &mut [u8], n: u16, q: u16, word: &[u8], source: u8, phones: &
     requires { (length word.now ≤ 47) × (length cuts.now ≡ length phones.now / 16) × Ended cuts.now × (n + size_in (grouped cuts.now (phones_of phones.now)) < items sheet.old) × (length sheet.old ≤ 65536) }
     ensures { sheet.new ≡ put_items sheet.old n (word_items n q (cut_word word.now source cuts.now (phones_of phones.now))) }
 {
-    let first = next_or(0, n + 1, cuts.len());
-    let last = last_syllable(phones, cuts, n + 1);
-    utterance::put_item(sheet, n, 1, 0, 0, first, last, 0, 0, 0, source, word);
+    let item = Fields {
+        kind: WORD,
+        first: next_or(0, n + 1, cuts.len()),
+        last: last_syllable(phones, cuts, n + 1),
+        source,
+        text: word,
+        ..Fields::default()
+    };
+    utterance::put_item(sheet, n, &item);
     put_syllables(sheet, n, q, phones, cuts);
 }
 

@@ -1,3 +1,4 @@
 -- Laws that only proofs use.
 pub mod Zeros
 pub mod Eight
+pub mod Bytes

@@ -1,32 +1,15 @@
--- `adding::may_add_all` meets its contract: the cells passed may be added, so those left decide. Assumes nothing.
+-- `adding::may_add_all` meets its contract: `chunks_exact` gives the records. Assumes nothing.
+use Rattle.std.proofs.Common.{arith, rules, tests, sym, ◌∙◌}
+use Rattle.std.proofs.lemmas.Iterator.Search.{all_from_yields_List}
+use Rattle.texts.specs.Laws.Library.{every_list_all}
+use Rattle.records.specs.Records.{records}
+use Rattle.slots.proofs.Chunks.{chunks_yield}
 use Rattle.lexicon_spec.specs.Adding.{may_add_cell, may_add_all}
-use Rattle.records.specs.Records.{records, record_of_lem, length_records}
-use Rattle.texts.specs.Lists.{every_turn, every_stop, every_end}
-use mathlib.Core.List.{[]}
-use mathlib.Core.Path.{refl, sym, ap, ◌∙◌}
-use native.Mathlib.Omega.{arith}
 use Rattle.adding.proofs.may_add_all.Goals as goal
 
-pub loop-i-init : goal.loop-i-init
-unfolding may_add_all
-loop-i-init c = (refl, omega arith, refl)
-
-pub returns-then-not-may_add_cell : goal.returns-then-not-may_add_cell
-returns-then-not-may_add_cell c =
-    let s = c.args.list.now in
-    let n = length_records 16 s in
-    let e = ap (may_add_cell c.args.table.now) (record_of_lem 16 c.loop-i.i s (omega arith)) ∙ sym c.may_add_cell.ensures ∙ c.if-not-may_add_cell.true in
-    sym (c.loop-i.invariant.2 ∙ every_stop (may_add_cell c.args.table.now) (records 16 s) c.loop-i.i [] (omega arith) e)
-
-pub loop-i-preserved : goal.loop-i-preserved
-loop-i-preserved c =
-    let s = c.args.list.now in
-    let n = length_records 16 s in
-    let e = ap (may_add_cell c.args.table.now) (record_of_lem 16 c.loop-i.i s (omega arith)) ∙ sym c.may_add_cell.ensures ∙ c.if-not-may_add_cell.false in
-    (c.loop-i.invariant.0, omega arith, c.loop-i.invariant.2 ∙ every_turn (may_add_cell c.args.table.now) (records 16 s) c.loop-i.i [] (omega arith) e)
-
 pub returns : goal.returns
+unfolding may_add_all
 returns c =
-    let s = c.args.list.now in
-    let n = length_records 16 s in
-    sym (c.loop-i.invariant.2 ∙ every_end (may_add_cell c.args.table.now) (records 16 s) c.loop-i.i (omega arith))
+    let b = c.args.list.now in
+    let f = may_add_cell c.args.table.now in
+    all_from_yields_List f _ _ c.all.result c.all.ensures.ran (chunks_yield 16 (omega arith) b c.chunks_exact.ensures.rest c.chunks_exact.ensures.size) (λ x b q k. search (rules, tests)) ∙ sym (every_list_all f (records 16 b))

@@ -1,12 +1,12 @@
 -- `appending::put_word` meets its contract: the word's own item, then its syllables. Assumes nothing.
 use native.Mathlib.Omega.{arith}
-use mathlib.Core.Path.{sym, ◌∙◌}
+use Rattle.std.proofs.Common.{rules, sym, ◌∙◌}
 use Rattle.cells.specs.Cells.{phones_of, length_phones_of}
 use Rattle.appending.specs.Laws.Putting.{word_written}
 use Rattle.appending.proofs.put_word.Goals as goal
 
-pub last_syllable-last-requires : goal.last_syllable-last-requires
-last_syllable-last-requires c = (c.requires.1, c.requires.2, omega arith)
+pub last_syllable-requires : goal.last_syllable-requires
+last_syllable-requires c = (c.requires.1, c.requires.2, omega arith)
 
 pub put_item-requires : goal.put_item-requires
 put_item-requires c = (omega arith, c.requires.0)
@@ -23,4 +23,4 @@ pub returns : goal.returns
 returns c =
     let a = c.args in
     let l = c.requires.1 ∙ sym (length_phones_of a.phones.now) in
-    word_written a.cuts.now (phones_of a.phones.now) l a.word.now a.source a.sheet.now c.put_item.new.sheet c.put_syllables.new.sheet a.n a.q c.next_or-first.result c.last_syllable-last.result c.next_or-first.ensures c.last_syllable-last.ensures c.put_item.ensures c.put_syllables.ensures
+    word_written a.cuts.now (phones_of a.phones.now) l a.word.now a.source a.sheet.now c.put_item.new.sheet c.put_syllables.new.sheet a.n a.q c.next_or.result c.last_syllable.result c.next_or.ensures c.last_syllable.ensures (search rules) c.put_syllables.ensures
