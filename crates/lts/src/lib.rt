@@ -63,7 +63,7 @@ fn put_leaf(phone: &[u8], list: &mut [u8], at: usize) -> usize
 }
 
 // The three sections of the letter trees.
-#[derive(Drop)]
+#[derive(Clone, Copy)]
 pub struct Trees<'a> {
     pub table: Table<'a>,
     pub index: &'a [u8],
@@ -72,11 +72,16 @@ pub struct Trees<'a> {
 }
 
 impl<'a> Trees<'a> {
-    // The trees that these sections are, if each has its form.
-    pub fn read(phones: &'a [u8], index: &'a [u8], model: &'a [u8]) -> Option<Trees<'a>>
+    // The trees that these sections are, if each has its form; the places of the phones go into the memory that the caller lends for them.
+    pub fn read(
+        phones: &'a [u8],
+        index: &'a [u8],
+        model: &'a [u8],
+        places: &'a mut [u16; 256],
+    ) -> Option<Trees<'a>>
         ensures { MatchOption result (is_trees phones.now index.now model.now ≡ false) (λ t. (t.table.bytes ≡ phones.entry) × (t.index ≡ index.entry) × (t.model ≡ model.entry)) }
     {
-        let table = Table::read(phones)?;
+        let table = Table::read(phones, places)?;
         if !data::is_lts_index(index) || !data::is_lts_model(model) {
             return None;
         }
@@ -156,7 +161,8 @@ pub fn predict(
     ensures result_value { told_predicted result ≡ answer phones.now index.now model.now word.now out.old }
     ensures out_after { out.new ≡ predicted phones.now index.now model.now word.now out.old }
 {
-    let trees = Trees::read(phones, index, model).ok_or(Refusal::Section)?;
+    let mut places = [0; 256];
+    let trees = Trees::read(phones, index, model, &mut places).ok_or(Refusal::Section)?;
     if !texts::is_word(word) {
         return Err(Refusal::Text);
     }
