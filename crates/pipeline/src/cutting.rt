@@ -69,7 +69,7 @@ pub fn prepare(version: u8, phones: &[u8], bare: &mut [u8], cuts: &mut [u8])
     ensures bare_after { bare.new ≡ cells_of (map (bare_of (digits version)) (phones_of phones.now)) ++ drop (16 * (length phones.now / 16)) bare.old }
     ensures cuts_after { cuts.new ≡ cuts_of version 48 (marks_of onsets false (map (bare_of (digits version)) (phones_of phones.now))) (phones_of phones.now) ++ drop (length phones.now / 16) cuts.old }
 {
-    let mut marks = [0u8; 96];
+    let mut marks = [0; 96];
     put_bare(version, bare, phones);
     syllabify::mark(&bare[..16 * (phones.len() / 16)], &mut marks);
     put_cuts(version, cuts, phones, &marks);
