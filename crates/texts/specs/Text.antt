@@ -1,10 +1,8 @@
 -- Byte strings. 01, Lookup: case folding; Adding: blanks; What a call gives back: words and tags.
 -- Assumes nothing.
-use Rattle.std.specs.Prelude.{ℕ, zero, suc, ◌+◌, ◌-◌, ◌≤◌, ◌<◌, ◌≡◌, refl, Bool, true, false, not, ◌&&◌, ◌||◌, List, [], ◌∷◌, ◌++◌, eqb, leb, ltb, length, get_or, take, drop}
-use Rattle.std.proofs.Common.{arith}
+use Rattle.std.specs.Prelude.{ℕ, zero, suc, ◌+◌, ◌≤◌, ◌<◌, ◌≡◌, refl, Bool, true, false, not, ◌&&◌, ◌||◌, List, [], ◌∷◌, eqb, leb, ltb, length, get_or, take, drop}
 use Prim.Native.Char.{code}
 use Prim.Native.String.{String, [] as nil, ◌∷◌ as ◌c∷◌}
-use Rattle.std.proofs.Math.Seq.{take-append_seam}
 use borrow.Author.Tests.{eqb-true, eq-eqb, leb-true, le-leb}
 use Rattle.texts.specs.Choice.{when◌then◌else◌, both_true, never, is_false}
 use Rattle.texts.specs.Lists.{every, every_at, some}
@@ -86,16 +84,6 @@ eq_same xs ys e = rw e (same_refl ys)
 
 pub ne_same : (xs ys : List ℕ) → (xs ≡ ys → ⊥) → same xs ys ≡ false
 ne_same xs ys h = is_false (same xs ys) (λ e. h (same_true xs ys e))
-
--- a text behind its length byte, as the code cuts it out of a row
-module _ (row x rest : List ℕ) (n : ℕ) (e : row ≡ length x ∷ x ++ rest) (en : n ≡ get_or row 0 0) where
-  pub counted_length : n ≡ length x
-  counted_length = rw e at en
-
-  pub counted_text : take (1 + n - 1) (drop 1 row) ≡ x
-  counted_text =
-      let m : 1 + n - 1 ≡ length x = omega (arith, counted_length) in
-      rw (m, e) (take-append_seam x rest)
 
 pub word_short : (s : List ℕ) → is_word s ≡ true → length s ≤ 47
 unfolding is_word
