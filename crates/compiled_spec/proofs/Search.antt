@@ -7,6 +7,7 @@ use Rattle.std.proofs.Math.Path.{refl, ap}
 use Rattle.std.proofs.Common.{◌∙◌}
 use borrow.Author.Tests.{ltb-true, lt-ltb, le-ltb, eq-eqb, ne_eqb}
 use Rattle.texts.specs.Choice.{cases}
+use Rattle.texts.specs.Laws.Library.{same_pointwise}
 use Rattle.texts.specs.Text.{same, smaller}
 use Rattle.compiled_spec.specs.Entries.{tag_of, word_of, is_whole, entry_at}
 use Rattle.compiled_spec.specs.Search.{damaged, search, tagged}
@@ -80,3 +81,8 @@ module _ (index dat word : List ℕ) (tag lo n i : ℕ) where
         tagged_turn e =
             let k : n ≡ suc (n - 1) = omega arith in
             ap (λ (m : ℕ). tagged index dat word tag lo m i) k ∙ rw (whole, equal, ne_eqb (tag_of (entry_at index dat i)) tag e)
+
+-- these laws for the proofs of both loops
+pub ruleset halving = (search_end, search_damaged, search_up, search_down)
+
+pub ruleset walking = (tagged_end, tagged_damaged, tagged_other, tagged_stop, tagged_turn, same_pointwise)

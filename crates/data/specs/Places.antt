@@ -158,9 +158,13 @@ pub record PhoneAt (s : List ℕ) (place k : ℕ) : Type 0 where
   pub fit : fits s place ≡ true
   pub is : get_or (table_phones s) k [] ≡ text_at s place
 
-pub phone_placed : (s ps : List ℕ) (k : ℕ) → is_phone_table s ≡ true → Placed s ps → k < u32_at s 0 → PhoneAt s (get_or ps k 0) k
-unfolding Placed table_phones
-phone_placed s ps k h p lt =
-    let e : get_or ps k 0 ≡ get_or (places (u32_at s 0) s 4) k 0 = sym (get_or-take (u32_at s 0) ps k 0 lt) ∙ ap (λ (l : List ℕ). get_or l k 0) p.1 in
+pub phone_stands : (s ps : List ℕ) (k : ℕ) → is_phone_table s ≡ true → take (u32_at s 0) ps ≡ places (u32_at s 0) s 4 → k < u32_at s 0 → PhoneAt s (get_or ps k 0) k
+unfolding table_phones
+phone_stands s ps k h p lt =
+    let e : get_or ps k 0 ≡ get_or (places (u32_at s 0) s 4) k 0 = sym (get_or-take (u32_at s 0) ps k 0 lt) ∙ ap (λ (l : List ℕ). get_or l k 0) p in
     let f = string_placed (u32_at s 0) k s 4 (table_fit s h) lt in
     record { fit = rw e f.0; is = rw e f.1 }
+
+pub phone_placed : (s ps : List ℕ) (k : ℕ) → is_phone_table s ≡ true → Placed s ps → k < u32_at s 0 → PhoneAt s (get_or ps k 0) k
+unfolding Placed
+phone_placed s ps k h p lt = phone_stands s ps k h p.1 lt

@@ -1,7 +1,7 @@
 -- 01, Lookup, and 02, S-8: runtime entries, exact ones first and the oldest first; then the addenda; then the compiled entries.
 -- What a lookup comes to, and refusals 6, 7 and 9.
 -- Assumes nothing.
-use Rattle.std.specs.Prelude.{ℕ, ◌*◌, true, false, List, ◌++◌, map, ltb, get_or, drop}
+use Rattle.std.specs.Prelude.{ℕ, ◌*◌, true, false, List, ◌++◌, map, ltb, get_or, drop, Some, None, Ok, Err}
 use Rattle.std.proofs.Math.Option.{Option, none, some, or_else}
 use Rattle.std.proofs.Math.ListN.{length}
 use Rattle.texts.specs.Choice.{when◌then◌else◌}
@@ -13,9 +13,7 @@ use Rattle.addenda.specs.Find.{is_meant}
 use Rattle.slots_spec.specs.Slot.{Entry}
 use Rattle.store_spec.specs.Store.{is_wanted}
 use Rattle.compiled_spec.specs.Entries.{entry_at, is_spoken, entry_phones}
-use Rattle.compiled_spec.specs.Search.{chosen}
-use Rattle.compiled_spec.specs.declared.Chosen.{Chosen}
-use Rattle.compiled_spec.specs.declared.Chosen.TheVariants.{Damaged, Missing, Entry as At}
+use Rattle.compiled_spec.specs.Search.{Chosen, chosen}
 use Rattle.answers.specs.declared.Answer.{Answer}
 use Rattle.answers.specs.declared.Source.{Source}
 use Rattle.answers.specs.declared.Source.TheVariants.{Runtime, Addenda, Compiled}
@@ -48,9 +46,9 @@ abbrev pub spoken : List ℕ → List ℕ → Finding
 spoken phones s = when is_spoken phones s then found Compiled (entry_phones phones s) else damaged
 
 abbrev pub on_chosen : List ℕ → List ℕ → List ℕ → Chosen → Finding
-on_chosen phones index dat Damaged = damaged
-on_chosen phones index dat Missing = nothing
-on_chosen phones index dat (At i) = spoken phones (entry_at index dat i)
+on_chosen phones index dat (Err e) = damaged
+on_chosen phones index dat (Ok None) = nothing
+on_chosen phones index dat (Ok (Some i)) = spoken phones (entry_at index dat i)
 
 -- the compiled answer
 unfoldable pub from_compiled : List ℕ → List ℕ → List ℕ → List ℕ → ℕ → Finding

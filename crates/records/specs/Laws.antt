@@ -1,3 +1,5 @@
 -- Laws that only proofs use.
 pub mod Zeros
 pub mod Eight
+pub mod Bytes
+pub mod Chunks

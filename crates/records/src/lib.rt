@@ -12,64 +12,51 @@ ghost use Rattle.records.specs.Fields.{u16_at, u32_at, u64_at, put16, put32, put
 pub fn byte_at(s: &[u8], k: usize) -> u8
     ensures { result ≡ get_or s.now k 0 }
 {
-    if k < s.len() { s[k] } else { 0 }
+    s.get(k).copied().unwrap_or(0)
 }
 
 // The bytes from k on.
 pub fn tail(s: &[u8], k: usize) -> &[u8]
     ensures { result.now ≡ drop k s.now }
 {
-    if k < s.len() { &s[k..] } else { &s[0..0] }
+    &s[k.min(s.len())..]
 }
 
 // The first n bytes.
 pub fn head(s: &[u8], n: usize) -> &[u8]
     ensures { result.now ≡ take n s.now }
 {
-    if n < s.len() { &s[0..n] } else { s }
-}
-
-// Two bytes as a number, the low one first.
-fn pair(low: u8, high: u8) -> u16
-    ensures { result ≡ low + 256 * high }
-{
-    (low as u16) + 256 * (high as u16)
+    &s[..n.min(s.len())]
 }
 
 // The u16 at k, both bytes of which are inside: one load.
+#[tactic(auto, unfolding(crate::specs::Fields::u16_at))]
 pub fn u16_in(s: &[u8], k: usize) -> u16
     requires { k + 1 < length s.now }
     ensures { result ≡ u16_at s.now k }
 {
-    pair(s[k], s[k + 1])
+    u16::from_le_bytes([s[k], s[k + 1]])
 }
 
 // The u16 at k.
+#[tactic(auto, unfolding(crate::specs::Fields::u16_at))]
 pub fn u16_at(s: &[u8], k: usize) -> u16
     ensures { result ≡ u16_at s.now k }
 {
-    if s.len() <= k {
-        return 0;
+    let s = tail(s, k);
+    if s.len() < 2 {
+        return u16::from(byte_at(s, 0));
     }
-    if k + 1 < s.len() {
-        return u16_in(s, k);
-    }
-    pair(s[k], 0)
-}
-
-// Two halves as a number, the low one first.
-fn joined(low: u16, high: u16) -> u32
-    ensures { result ≡ low + 65536 * high }
-{
-    (low as u32) + 65536 * (high as u32)
+    u16_in(s, 0)
 }
 
 // The u32 at k, all four bytes of which are inside: one load.
+#[tactic(auto, unfolding(crate::specs::Fields::u16_at, crate::specs::Fields::u32_at))]
 pub fn u32_in(s: &[u8], k: usize) -> u32
     requires { k + 3 < length s.now }
     ensures { result ≡ u32_at s.now k }
 {
-    joined(u16_in(s, k), u16_in(s, k + 2))
+    u32::from_le_bytes([s[k], s[k + 1], s[k + 2], s[k + 3]])
 }
 
 // The u64 at k, all eight bytes of which are inside: one load.
@@ -77,7 +64,7 @@ pub fn u64_in(s: &[u8], k: usize) -> u64
     requires { k + 7 < length s.now }
     ensures { result ≡ u64_at s.now k }
 {
-    (u32_in(s, k) as u64) + 4294967296 * (u32_in(s, k + 4) as u64)
+    u64::from_le_bytes(s[k..k + 8].try_into().unwrap())
 }
 
 // Whether every byte is zero, told eight at a time; the last eight overlap those before.
@@ -85,15 +72,8 @@ fn are_eights_zero(s: &[u8]) -> bool
     requires { 8 ≤ length s.now }
     ensures { result ≡ every (is 0) s.now }
 {
-    let last = s.len() - 8;
-    let mut k = 0;
-    while k < last {
-        if u64_in(s, k) != 0 {
-            return false;
-        }
-        k += 8;
-    }
-    u64_in(s, last) == 0
+    let (eights, _) = s.as_chunks::<8>();
+    eights.iter().all(|eight| u64_in(eight, 0) == 0) && u64_in(s, s.len() - 8) == 0
 }
 
 // Whether every byte is zero.
@@ -107,16 +87,15 @@ pub fn are_zeros(s: &[u8]) -> bool
 }
 
 // The u32 at k.
+#[tactic(auto, unfolding(crate::specs::Fields::u16_at, crate::specs::Fields::u32_at))]
 pub fn u32_at(s: &[u8], k: usize) -> u32
     ensures { result ≡ u32_at s.now k }
 {
-    if s.len() <= k {
-        return 0;
+    let s = tail(s, k);
+    if s.len() < 4 {
+        return u32::from_le_bytes([byte_at(s, 0), byte_at(s, 1), byte_at(s, 2), 0]);
     }
-    if k + 3 < s.len() {
-        return u32_in(s, k);
-    }
-    joined(u16_at(s, k), u16_at(s, k + 2))
+    u32_in(s, 0)
 }
 
 // v at k.
@@ -124,8 +103,7 @@ pub fn put_u16(s: &mut [u8], k: usize, v: u16)
     requires { k + 1 < length s.old }
     ensures { s.new ≡ put16 s.old k v }
 {
-    s[k] = (v % 256) as u8;
-    s[k + 1] = (v / 256) as u8;
+    s[k..k + 2].copy_from_slice(&v.to_le_bytes());
 }
 
 // v at k, as four bytes.
@@ -133,8 +111,7 @@ pub fn put_u32(s: &mut [u8], k: usize, v: u32)
     requires { k + 3 < length s.old }
     ensures { s.new ≡ put32 s.old k v }
 {
-    put_u16(s, k, (v % 65536) as u16);
-    put_u16(s, k + 2, (v / 65536) as u16);
+    s[k..k + 4].copy_from_slice(&v.to_le_bytes());
 }
 
 // v at k, as eight bytes.
@@ -142,8 +119,7 @@ pub fn put_u64(s: &mut [u8], k: usize, v: u64)
     requires { k + 7 < length s.old }
     ensures { s.new ≡ put64 s.old k v }
 {
-    put_u32(s, k, (v % 4294967296) as u32);
-    put_u32(s, k + 4, (v / 4294967296) as u32);
+    s[k..k + 8].copy_from_slice(&v.to_le_bytes());
 }
 
 // All of src into dst from k on.
@@ -151,11 +127,7 @@ pub fn copy_in(dst: &mut [u8], k: usize, src: &[u8])
     requires { k + length src.now ≤ length dst.old }
     ensures { dst.new ≡ paste dst.old k src.now (length src.now) }
 {
-    let mut j = 0;
-    while j < src.len() {
-        dst[k + j] = src[j];
-        j += 1;
-    }
+    dst[k..k + src.len()].copy_from_slice(src);
 }
 
 // n zeros into dst from k on.
@@ -163,9 +135,5 @@ pub fn clear(dst: &mut [u8], k: usize, n: usize)
     requires { k + n ≤ length dst.old }
     ensures { dst.new ≡ paste dst.old k (replicate n 0) n }
 {
-    let mut j = 0;
-    while j < n {
-        dst[k + j] = 0;
-        j += 1;
-    }
+    dst[k..k + n].fill(0);
 }

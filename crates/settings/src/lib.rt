@@ -5,5 +5,5 @@
 mod chain;
 mod known;
 
-pub use chain::{is_record, name, named, next, record_of};
+pub use chain::{at, is_record, name, named, next, record_of};
 pub use known::{all_fit, level, pitch, stretch};

@@ -1,7 +1,7 @@
 -- 02, S-12: a settings store, records of 32 bytes in lent bytes, chained by a next index; its values, and what is wrong with it for a reader.
 -- Record 0: version 0-1, first 2-3. Others: next 0-1, name length 2, name 3-17, kind 18, value 19-22. No other byte is looked at.
 -- Assumes nothing.
-use Rattle.std.specs.Prelude.{ℕ, zero, suc, ◌+◌, ◌*◌, ◌/◌, Bool, not, ◌&&◌, ◌||◌, List, [], ◌∷◌, map, eqb, leb, ltb, length, get_or, take, drop, pos}
+use Rattle.std.specs.Prelude.{ℕ, zero, suc, ◌+◌, ◌*◌, ◌/◌, ◌≡◌, ◌≢◌, Option, MatchOption, Bool, not, ◌&&◌, ◌||◌, List, [], ◌∷◌, map, eqb, leb, ltb, length, get_or, take, drop, pos}
 use Rattle.texts.specs.Choice.{when◌then◌else◌}
 use Rattle.texts.specs.Text.{bytes, same, distinct}
 use Rattle.records.specs.Fields.{u16_at, u32_at}
@@ -22,6 +22,10 @@ count b = length b / 32
 -- behind record 0 stands the first, behind any other its next; zero ends the chain
 unfoldable pub next : List ℕ → ℕ → ℕ
 next b i = u16_at b (when eqb i 0 then 2 else 32 * i)
+
+-- a record's number, and none where it is 0, as a chain has it
+abbrev pub Found : Option ℕ → ℕ → Type 0
+Found found i = MatchOption found (i ≡ 0) (λ j. (j ≡ i) × (j ≢ 0))
 
 -- the fields of record i: its name, its kind, and where its value stands
 unfoldable pub name_at : List ℕ → ℕ → List ℕ

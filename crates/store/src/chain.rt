@@ -10,22 +10,18 @@ pub fn seek(store: &[u8], n: usize, exact: bool, any: bool, word: &[u8], tag: u8
     ensures { (result ≡ seek_of store.now (is_wanted exact any word.now tag) n 0) × (result < 65536) }
 {
     let mut p = 0;
-    let mut left = n;
-    while 0 < left {
+    for _ in 0..n {
         let q = fields::next(store, p);
-        if q == 0 {
-            return p;
-        }
-        if fields::is_wanted(fields::slot(store, q), exact, any, word, tag) {
+        if q == 0 || fields::is_wanted(fields::slot(store, q), exact, any, word, tag) {
             return p;
         }
         p = q;
-        left -= 1;
     }
     p
 }
 
 // Cuts the slot behind p out of the chain.
+#[tactic(auto, unfolding(store_spec::specs::Adding::cut_out, store_spec::specs::Store::next))]
 fn cut_out(store: &mut [u8], p: usize)
     requires { (512 * p + 512 ≤ length store.old) × (p < 65536) }
     ensures { store.new ≡ cut_out store.old p }
@@ -34,11 +30,7 @@ fn cut_out(store: &mut [u8], p: usize)
     let last = records::u16_at(store, 2);
     let behind = records::u16_at(store, 512 * q);
     records::put_u16(store, 512 * p, behind);
-    if q == last as usize {
-        records::put_u16(store, 2, p as u16);
-    } else {
-        records::put_u16(store, 2, last);
-    }
+    records::put_u16(store, 2, if q == last as usize { p as u16 } else { last });
 }
 
 // Writes slot n whole and ties it behind the last.
@@ -48,13 +40,13 @@ fn tie(store: &mut [u8], n: usize, tag: u8, word: &[u8], phones: &[u8], exact: b
 {
     let last = records::u16_at(store, 2) as usize;
     let from = 512 * n;
-    let to = from + 512;
-    slots::write(&mut store[from..to], tag, word, phones, exact);
+    slots::write(&mut store[from..from + 512], tag, word, phones, exact);
     records::put_u16(store, 512 * last, n as u16);
     records::put_u16(store, 2, n as u16);
 }
 
 // An entry of a new key: it takes slot n + 1, where n slots are used; whether there is one.
+#[tactic(auto, unfolding(store_spec::specs::Adding::added_new))]
 fn add_new(store: &mut [u8], n: usize, tag: u8, word: &[u8], phones: &[u8], exact: bool) -> bool
     requires { (n ≡ used_of store.old) × (n < 65535) × (512 * last_of store.old + 512 ≤ length store.old) × (length word.now ≤ 47) × (length phones.now / 16 ≤ 24) }
     ensures value { result ≡ not (leb (slots store.old) (used_of store.old + 1)) }

@@ -6,6 +6,7 @@ ghost use Rattle.store_spec.specs.Store.{next as next_of, used as used_of, is_st
 ghost use Rattle.store_spec.specs.Laws.Exact.{has_exact};
 
 // The number of the slot behind slot n; behind slot 0 stands the first.
+#[tactic(auto, unfolding(store_spec::specs::Store::next))]
 pub fn next(store: &[u8], n: usize) -> usize
     requires { n < 65536 }
     ensures { (result ≡ next_of store.now n) × (result < 65536) }
@@ -21,6 +22,7 @@ pub fn used(store: &[u8]) -> usize
 }
 
 // The bytes of slot n.
+#[tactic(auto, unfolding(records::specs::Records::record_at))]
 pub fn slot(store: &[u8], n: usize) -> &[u8]
     requires { n < 65536 }
     ensures { result.now ≡ record_at 512 store.now n }
@@ -29,16 +31,11 @@ pub fn slot(store: &[u8], n: usize) -> &[u8]
 }
 
 // Whether a store may have this length.
+#[tactic(auto, unfolding(store_spec::specs::Store::is_store_length))]
 pub fn is_store_length(n: usize) -> bool
     ensures { result ≡ is_store_length n }
 {
-    if n < 512 {
-        return false;
-    }
-    if 65536 < n {
-        return false;
-    }
-    n % 512 == 0
+    (512..=65536).contains(&n) && n % 512 == 0
 }
 
 // Whether one of the slots 1 to n holds an exact entry.
@@ -46,25 +43,16 @@ pub fn has_exact(store: &[u8], n: usize) -> bool
     requires { n < 65536 }
     ensures { result ≡ has_exact store.now n }
 {
-    let mut k = n;
-    while 0 < k {
-        if records::byte_at(store, 512 * k + 52) == 1 {
-            return true;
-        }
-        k -= 1;
-    }
-    false
+    // Not `1..=n`: tried, and more than twice as slow.
+    (1..n + 1).any(|k| records::byte_at(store, 512 * k + 52) == 1)
 }
 
 // Whether the entry in a slot is exact or not, as wanted, and has this word, and a tag that agrees.
+#[tactic(auto, using(texts::specs::Laws::Library::same_pointwise), unfolding(store_spec::specs::Store::is_wanted))]
 pub fn is_wanted(slot: &[u8], exact: bool, any: bool, word: &[u8], tag: u8) -> bool
     ensures { result ≡ is_wanted exact any word.now tag (entry_of slot.now) }
 {
-    if slots::is_exact(slot) != exact {
-        return false;
-    }
-    if !texts::same(slots::word(slot), word) {
-        return false;
-    }
-    texts::agree(any, slots::tag(slot), tag)
+    slots::is_exact(slot) == exact
+        && slots::word(slot) == word
+        && texts::agree(any, slots::tag(slot), tag)
 }

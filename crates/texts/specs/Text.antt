@@ -1,12 +1,13 @@
 -- Byte strings. 01, Lookup: case folding; Adding: blanks; What a call gives back: words and tags.
 -- Assumes nothing.
 use Rattle.std.specs.Prelude.{ℕ, zero, suc, ◌+◌, ◌-◌, ◌≤◌, ◌<◌, ◌≡◌, refl, Bool, true, false, not, ◌&&◌, ◌||◌, List, [], ◌∷◌, ◌++◌, eqb, leb, ltb, length, get_or, take, drop}
-use Rattle.std.proofs.Common.{arith}
+use Rattle.std.proofs.Common.{arith, add-one}
 use Prim.Native.Char.{code}
 use Prim.Native.String.{String, [] as nil, ◌∷◌ as ◌c∷◌}
-use Rattle.std.proofs.Math.Seq.{take-append_seam}
-use borrow.Author.Tests.{eqb-true, eq-eqb, leb-true, le-leb}
-use Rattle.texts.specs.Choice.{when◌then◌else◌, both_true, never, is_false}
+use Rattle.std.proofs.Math.ListN.{drop_of_length-le}
+use Rattle.std.proofs.Math.Seq.{drop-cons, take-append_seam}
+use borrow.Author.Tests.{eqb-true, eq-eqb, ne_eqb, ltb-true, ltb-false, leb-true, le-leb}
+use Rattle.texts.specs.Choice.{when◌then◌else◌, cases, both_true, never, is_false}
 use Rattle.texts.specs.Lists.{every, every_at, some}
 
 -- the bytes of a quoted text
@@ -86,6 +87,27 @@ eq_same xs ys e = rw e (same_refl ys)
 
 pub ne_same : (xs ys : List ℕ) → (xs ≡ ys → ⊥) → same xs ys ≡ false
 ne_same xs ys h = is_false (same xs ys) (λ e. h (same_true xs ys e))
+
+-- two strings compared from a place on
+module _ (a b : List ℕ) (i : ℕ) where
+  pub smaller_turn : i < length a → i < length b → get_or a i 0 ≡ get_or b i 0 → smaller (drop i a) (drop i b) ≡ smaller (drop (i + 1) a) (drop (i + 1) b)
+  unfolding smaller
+  smaller_turn ha hb e = rw (add-one, drop-cons a i 0 ha, drop-cons b i 0 hb, eq-eqb _ _ e)
+
+  pub smaller_stop : i < length a → i < length b → (get_or a i 0 ≡ get_or b i 0 → ⊥) → smaller (drop i a) (drop i b) ≡ ltb (get_or a i 0) (get_or b i 0)
+  unfolding smaller
+  smaller_stop ha hb e = rw (drop-cons a i 0 ha, drop-cons b i 0 hb, ne_eqb _ _ e)
+
+  pub smaller_long : i < length a → length b ≤ i → smaller (drop i a) (drop i b) ≡ false
+  unfolding smaller
+  smaller_long ha hb = rw (drop-cons a i 0 ha, drop_of_length-le b hb)
+
+  pub smaller_end : length a ≤ i → smaller (drop i a) (drop i b) ≡ ltb i (length b)
+  unfolding smaller
+  smaller_end ha =
+      cases (ltb i (length b))
+      (λ e. rw (e, drop_of_length-le a ha, drop-cons b i 0 (ltb-true i (length b) e)))
+      (λ e. rw (e, drop_of_length-le a ha, drop_of_length-le b (ltb-false i (length b) e)))
 
 -- a text behind its length byte, as the code cuts it out of a row
 module _ (row x rest : List ℕ) (n : ℕ) (e : row ≡ length x ∷ x ++ rest) (en : n ≡ get_or row 0 0) where

@@ -6,7 +6,7 @@ ghost use Rattle.std.specs.Prelude.{◌≡◌, ◌/◌, ◌%◌, length};
 ghost use Rattle.trees.specs.Walk.{walk as walk_from};
 
 // What a node says. Only the definitions name it.
-#[derive(Drop)]
+#[derive(Clone, Copy, Debug, PartialEq, Eq)]
 pub enum Node {
     // a phone number
     Leaf(u8),
@@ -16,55 +16,23 @@ pub enum Node {
     Outside,
 }
 
-// Where a walk ends.
-#[derive(Drop)]
-pub enum Walked {
-    // at a leaf, whose number has a phone
-    Phone(u8),
-    Damaged,
-}
-
-// The walk from a start, over at most as many nodes as the model has; `phones` is how many phones there are.
-pub fn walk(model: &[u8], features: &[u8], start: u16, phones: usize) -> Walked
-    requires { (length features.now ≡ 8) × (length model.now % 6 ≡ 0) }
+// The phone number of the leaf that a walk from a start comes to, over at most as many nodes as the model has; none if the tree
+// is damaged. `phones` is how many phones there are.
+pub fn walk(model: &[u8], features: &[u8; 8], start: u16, phones: usize) -> Option<u8>
+    requires { length model.now % 6 ≡ 0 }
     ensures { result ≡ walk_from model.now features.now phones (length model.now / 6) start }
 {
-    let mut left = model.len() / 6;
-    let mut at = 6 * (start as usize);
-    if model.len() <= at {
-        return Walked::Damaged;
+    let mut n = start;
+    for _ in 0..model.len() / 6 {
+        let at = 6 * usize::from(n);
+        let node = model.get(at..at + 6)?;
+        let value = node[1];
+        let link = match node[0] {
+            255 => return (usize::from(value) < phones).then_some(value),
+            first @ 0..=7 if features[usize::from(first)] == value => 2,
+            _ => 4,
+        };
+        n = records::u16_in(node, link);
     }
-    while 0 < left {
-        let first = model[at];
-        let value = model[at + 1];
-        match first {
-            255 => {
-                if texts::wide(value) < phones {
-                    return Walked::Phone(value);
-                }
-                return Walked::Damaged;
-            }
-            0..=7 => {
-                if features[texts::wide(first)] == value {
-                    at = 6 * (records::u16_in(model, at + 2) as usize);
-                    if model.len() <= at {
-                        return Walked::Damaged;
-                    }
-                } else {
-                    at = 6 * (records::u16_in(model, at + 4) as usize);
-                    if model.len() <= at {
-                        return Walked::Damaged;
-                    }
-                }
-            }
-            8..=254 => {
-                at = 6 * (records::u16_in(model, at + 4) as usize);
-                if model.len() <= at {
-                    return Walked::Damaged;
-                }
-            }
-        }
-        left -= 1;
-    }
-    Walked::Damaged
+    None
 }

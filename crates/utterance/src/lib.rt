@@ -3,10 +3,10 @@
 #![tactic(auto)]
 
 mod fields;
-pub mod inside;
 mod links;
 mod writing;
 
-pub use fields::{follow, is_sheet_length, item, last, prev, text, used, version};
+pub use fields::{follow, inside, is_sheet_length, item, last, prev, text, used, version};
+pub use items::{Fields, PHONE, SYLLABLE, WORD};
 pub use links::{after, is_parent, is_sibling, is_sung};
 pub use writing::put_item;

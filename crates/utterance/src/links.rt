@@ -3,52 +3,54 @@
 ghost use Rattle.std.specs.Prelude.{◌≡◌, ◌<◌};
 ghost use Rattle.utterance_spec.specs.Sheet.{at, items, after_syllable, after_phone, beyond as beyond_of, after as after_of, is_parent, is_sibling, is_sung, version};
 
-use crate::{fields, inside};
+use crate::fields::{inside, item};
+use items::{PHONE, SYLLABLE, first, kind, last, next, parent, stress};
 
 // The item behind the children of a syllable: its next sibling, or its word's.
+#[tactic(auto, unfolding(utterance_spec::specs::Sheet::at, utterance_spec::specs::Sheet::after_syllable))]
 fn after_syllable(sheet: &[u8], i: u16) -> u16
     ensures { result ≡ after_syllable (at sheet.now) i }
 {
-    let n = fields::next(sheet, i);
+    let n = next(item(sheet, i));
     if n != 0 {
         return n;
     }
-    fields::next(sheet, fields::parent(sheet, i))
+    next(item(sheet, parent(item(sheet, i))))
 }
 
 // The item behind a phone.
+#[tactic(auto, unfolding(utterance_spec::specs::Sheet::at, utterance_spec::specs::Sheet::after_phone))]
 fn after_phone(sheet: &[u8], i: u16) -> u16
     requires { i < items sheet.now }
     ensures { result ≡ after_phone (at sheet.now) i }
 {
-    let n = inside::next(sheet, i);
+    let n = next(inside(sheet, i));
     if n != 0 {
         return n;
     }
-    after_syllable(sheet, inside::parent(sheet, i))
+    after_syllable(sheet, parent(inside(sheet, i)))
 }
 
 // The item behind the children of item i.
+#[tactic(auto, unfolding(utterance_spec::specs::Sheet::at, utterance_spec::specs::Sheet::beyond))]
 fn beyond(sheet: &[u8], i: u16) -> u16
     requires { i < items sheet.now }
     ensures { result ≡ beyond_of (at sheet.now) i }
 {
-    let k = inside::kind(sheet, i);
-    if k == 3 {
-        return after_phone(sheet, i);
+    match kind(inside(sheet, i)) {
+        PHONE => after_phone(sheet, i),
+        SYLLABLE => after_syllable(sheet, i),
+        _ => next(inside(sheet, i)),
     }
-    if k == 2 {
-        return after_syllable(sheet, i);
-    }
-    inside::next(sheet, i)
 }
 
 // The next item in reading order.
+#[tactic(auto, unfolding(utterance_spec::specs::Sheet::at, utterance_spec::specs::Sheet::after))]
 pub fn after(sheet: &[u8], i: u16) -> u16
     requires { i < items sheet.now }
     ensures { result ≡ after_of (at sheet.now) i }
 {
-    let f = inside::first(sheet, i);
+    let f = first(inside(sheet, i));
     if f != 0 {
         return f;
     }
@@ -56,46 +58,44 @@ pub fn after(sheet: &[u8], i: u16) -> u16
 }
 
 // Whether an item's child fields agree with its first child.
+#[tactic(auto, unfolding(utterance_spec::specs::Sheet::at, utterance_spec::specs::Sheet::is_parent))]
 pub fn is_parent(sheet: &[u8], i: u16) -> bool
     requires { i < items sheet.now }
     ensures { result ≡ is_parent (at sheet.now) i }
 {
-    let f = inside::first(sheet, i);
+    let own = inside(sheet, i);
+    let f = first(own);
     if f == 0 {
-        return inside::last(sheet, i) == 0;
+        return last(own) == 0;
     }
-    if fields::parent(sheet, f) != i {
-        return false;
-    }
-    texts::wide(fields::kind(sheet, f)) == texts::wide(inside::kind(sheet, i)) + 1
+    let child = item(sheet, f);
+    parent(child) == i && u16::from(kind(child)) == u16::from(kind(own)) + 1
 }
 
 // Whether an item agrees with its next sibling, or with its parent where it is the last.
+#[tactic(auto, unfolding(utterance_spec::specs::Sheet::at, utterance_spec::specs::Sheet::is_sibling))]
 pub fn is_sibling(sheet: &[u8], i: u16) -> bool
     requires { i < items sheet.now }
     ensures { result ≡ is_sibling (at sheet.now) i }
 {
-    let n = inside::next(sheet, i);
-    let p = inside::parent(sheet, i);
+    let own = inside(sheet, i);
+    let n = next(own);
     if n == 0 {
-        return fields::last(sheet, p) == i;
+        return last(item(sheet, parent(own))) == i;
     }
-    if fields::parent(sheet, n) != p {
-        return false;
-    }
-    fields::kind(sheet, n) == inside::kind(sheet, i)
+    let sibling = item(sheet, n);
+    parent(sibling) == parent(own) && kind(sibling) == kind(own)
 }
 
 // Whether an item has a stress of the sheet's version, and a phone, if it is a syllable.
+#[tactic(auto, unfolding(utterance_spec::specs::Sheet::at, utterance_spec::specs::Sheet::is_sung))]
 pub fn is_sung(sheet: &[u8], i: u16) -> bool
     requires { i < items sheet.now }
     ensures { result ≡ is_sung (at sheet.now) (version sheet.now) i }
 {
-    if inside::kind(sheet, i) != 2 {
+    let own = inside(sheet, i);
+    if kind(own) != SYLLABLE {
         return true;
     }
-    if !versions::is_stress(inside::stress(sheet, 0), inside::stress(sheet, i)) {
-        return false;
-    }
-    inside::first(sheet, i) != 0
+    versions::is_stress(stress(inside(sheet, 0)), stress(own)) && first(own) != 0
 }

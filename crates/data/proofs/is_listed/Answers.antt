@@ -1,81 +1,52 @@
--- `data::is_listed` meets its contract: of the strings passed none is the phone, so those from `at` on, all of which fit, decide. Assumes nothing.
-use Prim.Native.Nat.{◌+◌, ◌-◌, ◌<◌}
-use native.Mathlib.Omega.{arith}
-use mathlib.Core.Path.{◌≡◌, sym, ◌∙◌}
-use lib.ListN.{drop, take, get_or}
-use Rattle.texts.specs.Choice.{never}
-use Rattle.texts.specs.Text.{same}
+-- `data::is_listed` meets its contract: of the strings passed none is the phone, so those from the reader's position on, all of which fit, decide. Assumes nothing.
+use Rattle.std.proofs.Common.{◌≡◌, ◌<◌, ◌-◌, ◌+◌, arith, sym, ap, ◌∙◌, drop}
+use Rattle.records.specs.Fields.{u32_at}
 use Rattle.data.specs.Sections.{table_phones, is_listed, listed_here, listed_behind, listed_end}
 use Rattle.data.specs.Places.{table_fit, first_fits, fit_turn}
-use Rattle.reader.specs.Reader.{StringTaken, string_taken, string_broken, fits}
+use Rattle.reader.specs.Reader.{text_taken, text_fits}
 use Rattle.data.proofs.is_listed.Goals as goal
 
-pub loop-left-init : goal.loop-left-init
+pub loop-init : goal.loop-init
 unfolding is_listed table_phones
-loop-left-init c =
+loop-init c =
     let s = c.args.s.now in
-    let e = c.table_count-left.ensures.0 in
-    (rw e (table_fit s c.requires), rw e)
+    let b : c.moved-strings.result.bytes.now ≡ s = cc in
+    let at : c.moved-strings.result.pos ≡ 4 = cc in
+    let n : c.table_count-end.result - 0 ≡ u32_at s 0 = omega (arith, c.table_count-end.ensures.0) in
+    (b, rw (n, at) (table_fit s c.requires), rw (n, at))
 
-pub returns-in_default : goal.returns-in_default
-returns-in_default c =
-    let l = c.loop-left in
+pub unwrap-text-requires : goal.unwrap-text-requires
+unwrap-text-requires c =
+    let l = c.loop in
     let s = c.args.s.now in
-    let g = first_fits s l.at l.left (omega arith) l.invariant.0 in
-    never (fits s l.at) g (string_broken s l.at c.string_from.ensures c.in_default.is)
-
-pub slice_bounds-same-count : goal.slice_bounds-same-count
-slice_bounds-same-count c =
-    let next : StringTaken c.args.s.now c.loop-left.at c.in-At.from c.in-At.to =
-    string_taken c.args.s.now c.loop-left.at c.string_from.ensures c.in-At.is in
-    let r = next in omega arith
-
-pub slice_bounds-same-start : goal.slice_bounds-same-start
-slice_bounds-same-start c =
-    let next : StringTaken c.args.s.now c.loop-left.at c.in-At.from c.in-At.to =
-    string_taken c.args.s.now c.loop-left.at c.string_from.ensures c.in-At.is in
-    let r = next in omega arith
-
-pub slice_bounds-same-end : goal.slice_bounds-same-end
-slice_bounds-same-end c =
-    let next : StringTaken c.args.s.now c.loop-left.at c.in-At.from c.in-At.to =
-    string_taken c.args.s.now c.loop-left.at c.string_from.ensures c.in-At.is in
-    let r = next in omega arith
+    let f = first_fits s l.strings.pos (c.table_count-end.result - l.counter) (omega arith) l.invariant.1 in
+    text_fits s l.strings.pos c.read_string.result _ (rw l.invariant.0 at c.read_string.ensures.taken) f
 
 pub returns-then-same : goal.returns-then-same
 returns-then-same c =
-    let next : StringTaken c.args.s.now c.loop-left.at c.in-At.from c.in-At.to =
-    string_taken c.args.s.now c.loop-left.at c.string_from.ensures c.in-At.is in
-    let compared : c.same.result ≡ same c.args.phone.now (take (get_or c.args.s.now c.loop-left.at 0) (drop (c.loop-left.at + 1) c.args.s.now)) =
-    let l = c.loop-left in
-    let s = c.args.s.now in
-    let r = next in
-    let e : l.at + (1 + get_or s l.at 0) - (l.at + 1) ≡ get_or s l.at 0 = omega arith in
-    rw (r.starts, r.stands, e) at c.same.ensures in
-    let l = c.loop-left in
+    let l = c.loop in
     let a = c.args in
-    sym (l.invariant.1 ∙ listed_here a.s.now l.at l.left (omega arith) a.phone.now (sym (compared) ∙ c.if-same.true))
+    let t = text_taken a.s.now l.strings.pos (rw (l.invariant.0, c.unwrap-text.ensures) at c.read_string.ensures.taken) in
+    let e = rw (t.is) at c.same.ensures in
+    sym (l.invariant.2 ∙ listed_here a.s.now l.strings.pos (c.table_count-end.result - l.counter) (omega arith) a.phone.now (sym e ∙ c.if-same.true))
 
-pub loop-left-preserved : goal.loop-left-preserved
-loop-left-preserved c =
-    let next : StringTaken c.args.s.now c.loop-left.at c.in-At.from c.in-At.to =
-    string_taken c.args.s.now c.loop-left.at c.string_from.ensures c.in-At.is in
-    let compared : c.same.result ≡ same c.args.phone.now (take (get_or c.args.s.now c.loop-left.at 0) (drop (c.loop-left.at + 1) c.args.s.now)) =
-    let l = c.loop-left in
-    let s = c.args.s.now in
-    let r = next in
-    let e : l.at + (1 + get_or s l.at 0) - (l.at + 1) ≡ get_or s l.at 0 = omega arith in
-    rw (r.starts, r.stands, e) at c.same.ensures in
-    let l = c.loop-left in
+pub loop-preserved : goal.loop-preserved
+loop-preserved c =
+    let l = c.loop in
     let a = c.args in
     let s = a.s.now in
-    let r = next in
-    let k : 0 < l.left = omega arith in
-    let n = sym (compared) ∙ c.if-same.false in
-    (rw r.stands (sym (fit_turn s l.at l.left k r.fit) ∙ l.invariant.0), rw r.stands (l.invariant.1 ∙ listed_behind s l.at l.left k a.phone.now n))
+    let left = c.table_count-end.result - l.counter in
+    let k : 0 < left = omega arith in
+    let n : c.table_count-end.result - (l.counter + 1) ≡ left - 1 = omega arith in
+    let t = text_taken s l.strings.pos (rw (l.invariant.0, c.unwrap-text.ensures) at c.read_string.ensures.taken) in
+    let e = rw (t.is) at c.same.ensures in (
+      ap (λ r. r.now) c.read_string.ensures.bytes ∙ l.invariant.0,
+      rw (n, t.stands) (sym (fit_turn s l.strings.pos left k t.fit) ∙ l.invariant.1),
+      rw (n, t.stands) (l.invariant.2 ∙ listed_behind s l.strings.pos left k a.phone.now (sym e ∙ c.if-same.false)),
+    )
 
 pub returns : goal.returns
 returns c =
-    let l = c.loop-left in
+    let l = c.loop in
     let a = c.args in
-    sym (l.invariant.1 ∙ listed_end a.phone.now (drop l.at a.s.now) l.left (omega arith))
+    sym (l.invariant.2 ∙ listed_end a.phone.now (drop l.strings.pos a.s.now) (c.table_count-end.result - l.counter) (omega arith))

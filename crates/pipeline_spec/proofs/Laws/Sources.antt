@@ -1,6 +1,6 @@
 -- Whatever source a word's phones come from, each has at most 15 bytes, all below 128.
 -- Assumes nothing.
-use Rattle.std.specs.Prelude.{ℕ, ◌≡◌, refl, true, false, ◌&&◌, List, [], ◌∷◌, map, leb, ltb, length, get_or}
+use Rattle.std.specs.Prelude.{ℕ, ◌≡◌, refl, true, false, ◌&&◌, List, [], ◌∷◌, map, leb, ltb, length, get_or, Some, None, Ok, Err}
 use Rattle.std.proofs.Common.{arith, leb-true}
 use Rattle.std.proofs.Math.Option.{Option, none, some, or_else}
 use Rattle.texts.specs.Choice.{both_true, cases}
@@ -19,9 +19,7 @@ use Rattle.store_spec.specs.Store.{entry_at, entries, is_wanted}
 use Rattle.store_spec.specs.Sound.{Slot, Sound}
 use Rattle.store_spec.proofs.Sound.{entries_are}
 use Rattle.compiled_spec.specs.Entries.{entry_at as compiled_at, numbers_of, entry_phones, is_spoken}
-use Rattle.compiled_spec.specs.Search.{chosen}
-use Rattle.compiled_spec.specs.declared.Chosen.{Chosen}
-use Rattle.compiled_spec.specs.declared.Chosen.TheVariants.{Damaged as entry_damaged, Missing, Entry as At}
+use Rattle.compiled_spec.specs.Search.{Chosen, chosen}
 use Rattle.lts_spec.proofs.FewPhones.{table_phone}
 use Rattle.lexicon_spec.specs.Lookup.{chosen_entry, Finding, nothing, damaged, found, on_entry, on_row, on_chosen, from_compiled, find}
 
@@ -58,9 +56,9 @@ numbers_fit table (n ∷ ns) t = rw (table_phone table n t) (numbers_fit table n
 
 chosen_fit : (table index dat : List ℕ) (o : Chosen) → is_phone_table table ≡ true → Fit (on_chosen table index dat o)
 unfolding entry_phones
-chosen_fit table index dat entry_damaged t = tt
-chosen_fit table index dat Missing t = tt
-chosen_fit table index dat (At i) t =
+chosen_fit table index dat (Err e) t = tt
+chosen_fit table index dat (Ok None) t = tt
+chosen_fit table index dat (Ok (Some i)) t =
     cases (is_spoken table (compiled_at index dat i))
     (λ e. rw e (numbers_fit table (numbers_of (compiled_at index dat i)) t))
     (λ e. rw e tt)

@@ -1,23 +1,23 @@
--- `records::are_eights_zero` meets its contract: the bytes below k are zero, and the last eight bytes decide. Assumes nothing.
-use Prim.Native.Nat.{ℕ, ◌-◌}
-use native.Mathlib.Nat.{not-suc-le-zero}
-use native.Mathlib.Omega.{arith}
-use mathlib.Core.Path.{sym, ap, ◌∙◌}
-use lib.Dec.{eqb}
-use lib.ListN.{length}
-use Rattle.records.specs.Laws.Zeros.{ZeroBelow, zeros_turn, zeros_stop, zeros_end}
+-- `records::are_eights_zero` meets its contract: the bytes of its whole eights are zero, and the last eight bytes decide. Assumes nothing.
+use Rattle.std.proofs.Common.{◌≡◌, ◌-◌, ◌*◌, ◌/◌, ℕ, rules, tests, arith, sym, ap, ◌∙◌, length, eqb}
+use Rattle.std.proofs.lemmas.Iterator.{YieldsList-from_slice}
+use Rattle.std.proofs.lemmas.Iterator.Search.{all_from_yields_List}
+use Rattle.std.specs.List.{list_all}
+use Rattle.std.specs.Simd.{first_chunks}
+use Rattle.records.specs.Laws.Zeros.{is_zero, zeros_end, eights_zero, eights_stop}
 use Rattle.records.proofs.are_eights_zero.Goals as goal
 
-pub loop-k-init : goal.loop-k-init
-loop-k-init c j h = absurd (not-suc-le-zero h)
-
-pub returns-then-u64_in-ne0 : goal.returns-then-u64_in-ne0
-returns-then-u64_in-ne0 c = sym (zeros_stop c.args.s.now c.loop-k.k (λ z. c.if-u64_in-ne0.true (c.u64_in.ensures ∙ z)))
-
-pub loop-k-preserved : goal.loop-k-preserved
-loop-k-preserved c = zeros_turn c.args.s.now c.loop-k.k c.loop-k.invariant (sym c.u64_in.ensures ∙ c.if-u64_in-ne0.false)
-
-pub returns : goal.returns
-returns c =
+pub returns-then-all : goal.returns-then-all
+returns-then-all c =
     let s = c.args.s.now in
-    ap (λ (n : ℕ). eqb n 0) c.u64_in-2.ensures ∙ zeros_end s c.loop-k.k (length s - 8) c.loop-k.invariant (omega arith) (omega arith)
+    let t : c.all.result ≡ list_all is_zero (first_chunks 8 (length s / 8) s) =
+    all_from_yields_List is_zero _ _ c.all.result c.all.ensures.ran (YieldsList-from_slice _ cc) (λ x b q k. search (rules, tests)) in
+    let z = eights_zero (length s / 8) s (sym t ∙ c.if-all.true) in
+    ap (λ (n : ℕ). eqb n 0) c.u64_in.ensures ∙ zeros_end s (8 * (length s / 8)) (length s - 8) z (omega arith) (omega arith)
+
+pub returns-else-all : goal.returns-else-all
+returns-else-all c =
+    let s = c.args.s.now in
+    let t : c.all.result ≡ list_all is_zero (first_chunks 8 (length s / 8) s) =
+    all_from_yields_List is_zero _ _ c.all.result c.all.ensures.ran (YieldsList-from_slice _ cc) (λ x b q k. search (rules, tests)) in
+    c.if-all.false ∙ sym (eights_stop (length s / 8) s (sym t ∙ c.if-all.false))

@@ -1,12 +1,11 @@
--- `records::put_u64` meets its contract: two halves, one after the other. Assumes nothing.
-use Prim.Native.Nat.{ℕ, ◌+◌, ◌/◌}
-use mathlib.Core.List.{List}
-use mathlib.Core.Path.{ap, ◌∙◌}
-use Rattle.records.specs.Fields.{put32, put64}
+-- `records::put_u64` meets its contract: the number's bytes are copied in. Assumes nothing.
+use Rattle.std.proofs.Common.{arith, refl, sym, ◌∙◌}
+use Rattle.std.proofs.lemmas.Slice.{put_mid-paste}
+use Rattle.records.specs.Laws.Bytes.{put64_le}
 use Rattle.records.proofs.put_u64.Goals as goal
 
 pub returns : goal.returns
-unfolding put64
 returns c =
     let a = c.args in
-    c.put_u32-2.ensures ∙ ap (λ (l : List ℕ). put32 l (a.k + 4) (a.v / 4294967296)) c.put_u32.ensures
+    put_mid-paste a.k _ a.s.now _ _ 8 (c.copy_from_slice.ensures.after ∙ c.to_le_bytes.ensures) (omega arith) refl
+    ∙ sym (put64_le a.s.now a.k a.v (omega arith) (omega arith))

@@ -1,7 +1,7 @@
 -- A u64 put into bytes is read back, and every byte but its eight is as it was.
 -- Assumes nothing.
-use Rattle.std.specs.Prelude.{ℕ, ◌+◌, ◌*◌, ◌%◌, ◌/◌, ◌<◌, ◌≤◌, ◌≡◌, ◌⊎◌, List, length, get_or}
-use Rattle.std.proofs.Common.{arith, ap, ◌∙◌, inl, inr}
+use Rattle.std.specs.Prelude.{ℕ, ◌+◌, ◌%◌, ◌/◌, ◌<◌, ◌≤◌, ◌≡◌, ◌⊎◌, List, length, get_or}
+use Rattle.std.proofs.Common.{arith, ◌∙◌, inl, inr}
 use Rattle.records.specs.Fields.{u16_at, u32_at, u64_at, put32, put64, length_put32, byte_put32, u32_put_same}
 
 pub length_put64 : (b : List ℕ) (k v : ℕ) → length (put64 b k v) ≡ length b

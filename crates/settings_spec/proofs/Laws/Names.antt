@@ -12,11 +12,12 @@ use borrow.Author.Tests.{eq-eqb, ne_eqb, eqb-true}
 use Rattle.texts.specs.Choice.{cases, never, is_false}
 use Rattle.texts.specs.Lists.{some}
 use Rattle.texts.specs.Text.{same, distinct, same_true, eq_same}
+use Rattle.texts.specs.Laws.Library.{same_pointwise}
 use Rattle.records.specs.Chain.{All, Distinct, chain, chain_turn, chain_stop, chain_end, distinct as once}
 use Rattle.settings_spec.specs.Settings.{next, name_at, walks, named, record_of}
 use Rattle.settings_spec.proofs.Sound.{walked}
 use Rattle.settings_spec.proofs.Laws.Turns.{chain_real}
-use Rattle.settings_spec.specs.Laws.Names.{sought, given, first_lost}
+use Rattle.settings_spec.specs.Laws.Names.{place_of, sought, given, first_lost}
 
 module _ (b table : List ℕ) where
   -- the search, turn by turn
@@ -38,6 +39,18 @@ module _ (b table : List ℕ) where
     sought_turn zero k h n t = absurd (not-suc-le-zero h)
     sought_turn (suc left) k h n t = let e : suc left - 1 ≡ left = omega arith in rw (e, ne_eqb (get_or table k 0) 0 n, t)
 
+    -- the same where the places are counted on from where the name is sought first, and taken round the table
+    pub sought_start : (k : ℕ) → k ≡ place_of name → k < 4096 → given b table name ≡ sought b table name (k + 64 - k) (k % 4096)
+    unfolding given
+    sought_start k e h = let d : k + 64 - k ≡ 64 = omega arith in let m : k % 4096 ≡ k = omega arith in rw (d, m, e)
+
+    pub sought_step : (end at : ℕ) → at < end → get_or table (at % 4096) 0 ≢ 0 → same name (name_at b (get_or table (at % 4096) 0)) ≡ false
+        → sought b table name (end - at) (at % 4096) ≡ sought b table name (end - (at + 1)) ((at + 1) % 4096)
+    sought_step end at h n t =
+        let d : end - at - 1 ≡ end - (at + 1) = omega arith in
+        let m : (at % 4096 + 1) % 4096 ≡ (at + 1) % 4096 = omega arith in
+        rw (← d, ← m) (sought_turn (end - at) (at % 4096) (omega arith) n t)
+
     pub sought_end : (left k : ℕ) → left ≤ 0 → sought b table name left k ≡ record_of b name
     unfolding sought
     sought_end left k h = let e : left ≡ 0 = omega arith in rw e
@@ -47,6 +60,11 @@ module _ (b table : List ℕ) where
       → first_lost b table (chain (next b) left p) ≡ first_lost b table (chain (next b) (left - 1) q)
   unfolding first_lost
   lost_turn left p q h e n t = ap (first_lost b table) (chain_turn (next b) left p q h e n) ∙ rw (eq-eqb (given b table (name_at b q)) q t)
+
+  -- the same where k of n records are behind
+  pub lost_step : (n k p q : ℕ) → k < n → q ≡ next b p → q ≢ 0 → given b table (name_at b q) ≡ q
+      → first_lost b table (chain (next b) (n - k) p) ≡ first_lost b table (chain (next b) (n - (k + 1)) q)
+  lost_step n k p q h e z t = let m : n - k - 1 ≡ n - (k + 1) = omega arith in rw (← m) (lost_turn (n - k) p q (omega arith) e z t)
 
   pub lost_hit : (left p q : ℕ) → 0 < left → q ≡ next b p → q ≢ 0 → given b table (name_at b q) ≢ q → first_lost b table (chain (next b) left p) ≡ q
   unfolding first_lost
@@ -133,3 +151,8 @@ module _ (b table : List ℕ) where
       → named b (name_at b (first_lost b table (chain (next b) n 0))) (chain (next b) n 0) ≢ first_lost b table (chain (next b) n 0)
       → distinct (map (name_at b) (chain (next b) n 0)) ≡ false
   lost_twice n l h = let xs = chain (next b) n 0 in twice (first_lost b table xs) xs (lost_in (first_lost b table xs) xs refl l) h
+
+-- what loops over the table and the chain need of them
+pub ruleset sought_turns = (sought_start, sought_free, sought_hit, sought_step, sought_end, same_pointwise)
+
+pub ruleset lost_turns = (lost_step, lost_hit, lost_stop, lost_end)

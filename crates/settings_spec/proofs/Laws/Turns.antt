@@ -1,6 +1,6 @@
 -- One law for each turn, early end and end of the walks along a settings store's chain.
 -- Assumes nothing.
-use Prim.Native.Nat.{ℕ, zero, suc, ◌-◌, ◌≤◌, ◌<◌}
+use Prim.Native.Nat.{ℕ, zero, suc, ◌+◌, ◌-◌, ◌≤◌, ◌<◌}
 use Rattle.std.proofs.Common.{not-suc-le-zero, ◌∙◌}
 use native.Mathlib.Omega.{arith}
 use Rattle.std.specs.Prelude.{◌≡◌, ◌≢◌, Bool, true, false, not, eqb}
@@ -10,6 +10,7 @@ use borrow.Author.Tests.{eq-eqb, ne_eqb, eqb-false}
 use Rattle.texts.specs.Choice.{cases}
 use Rattle.texts.specs.Lists.{some}
 use Rattle.texts.specs.Text.{same, distinct}
+use Rattle.texts.specs.Laws.Library.{same_pointwise}
 use Rattle.records.specs.Chain.{All, chain, chain_turn, chain_stop, chain_end}
 use Rattle.settings_spec.specs.Settings.{next, name_at, is_record, walks, named}
 
@@ -19,6 +20,10 @@ module _ (b : List ℕ) where
   unfolding walks
   walks_turn zero p q h e n r = absurd (not-suc-le-zero h)
   walks_turn (suc left) p q h e n r = let k : suc left - 1 ≡ left = omega arith in rw (k, ← e, ne_eqb q 0 n, r)
+
+  -- the same where k of n records are behind
+  pub walks_step : (n k p q : ℕ) → k < n → q ≡ next b p → q ≢ 0 → is_record b q ≡ true → walks b (n - k) p ≡ walks b (n - (k + 1)) q
+  walks_step n k p q h e z r = let m : n - k - 1 ≡ n - (k + 1) = omega arith in rw (← m) (walks_turn (n - k) p q (omega arith) e z r)
 
   pub walks_done : (left p : ℕ) → next b p ≡ 0 → walks b left p ≡ true
   unfolding walks
@@ -40,6 +45,11 @@ module _ (b : List ℕ) where
         → named b name (chain (next b) left p) ≡ named b name (chain (next b) (left - 1) q)
     unfolding named
     named_turn left p q h e n t = ap (named b name) (chain_turn (next b) left p q h e n) ∙ rw t
+
+    -- the same where k of n records are behind
+    pub named_step : (n k p q : ℕ) → k < n → q ≡ next b p → q ≢ 0 → same name (name_at b q) ≡ false
+        → named b name (chain (next b) (n - k) p) ≡ named b name (chain (next b) (n - (k + 1)) q)
+    named_step n k p q h e z t = let m : n - k - 1 ≡ n - (k + 1) = omega arith in rw (← m) (named_turn (n - k) p q (omega arith) e z t)
 
     pub named_hit : (left p q : ℕ) → 0 < left → q ≡ next b p → q ≢ 0 → same name (name_at b q) ≡ true → named b name (chain (next b) left p) ≡ q
     unfolding named
@@ -94,3 +104,10 @@ module _ (b : List ℕ) where
   pub differ_end : (left p : ℕ) → left ≤ 0 → distinct (map (name_at b) (chain (next b) left p)) ≡ true
   unfolding distinct differ
   differ_end left p h = ap differ (chain_end (next b) left p h)
+
+-- what a loop over the chain needs of them
+pub ruleset named_turns = (named_step, named_hit, named_stop, named_end, same_pointwise)
+
+pub ruleset walks_turns = (walks_step, walks_done, walks_stop, walks_end)
+
+pub ruleset differ_turns = (differ_turn, differ_hit, differ_stop, differ_end)

@@ -1,65 +1,60 @@
--- `trees::walk` meets its contract: before each turn the walk stands inside the model, and each arm is one law of its turn. Assumes nothing.
-use native.Mathlib.Omega.{arith}
-use mathlib.Core.Path.{sym}
-use mathlib.Core.Logic.{⊎_elim}
-use Rattle.trees.proofs.Turn.{Walking, walk_outside, walking_start, node_match, node_miss, node_never, walking_end, walking_phone, walking_no_phone, walking_out, walking_on}
+-- `trees::walk` meets its contract: what the walk comes to from its node over the turns left is what it comes to. Assumes nothing.
+use Rattle.std.specs.Bool.{then_some}
+use Rattle.texts.specs.Choice.{when◌then◌else◌}
+use Rattle.std.proofs.Common.{ℕ, Bool, true, false, List, Some, None, refl, slice_range, ◌≡◌, ◌≤◌, ◌+◌, ◌-◌, ◌*◌, ◌/◌, arith, sym, ◌∙◌, length, get_or}
+use Rattle.trees.specs.Walk.{node_at}
+use Rattle.trees.specs.declared.Node.TheVariants.{Leaf, Next, Outside}
+use Rattle.trees.proofs.Turn.{Stands, node_outside, node_leaf, node_match, node_miss, node_never}
+use Rattle.trees.proofs.WalkLaws.{walk_turn, walk_end}
 use Rattle.trees.proofs.walk.Goals as goal
-use Rattle.trees.proofs.walk.Goals.{in-0-to-7+then-features-wide+else-model-at-2, in-0-to-7+else-features-wide+else-model-at-3, in-8-to-254+else-model-at-4}
+use Rattle.trees.proofs.walk.Goals.{in-0-to-7, in_default-2, in_default}
 
-pub returns-then-model-at : goal.returns-then-model-at
-returns-then-model-at c =
+-- what the library's test answers, as the definition has it
+chosen : (b : Bool) (p : ℕ) → then_some b p ≡ (when b then Some p else None)
+chosen true p = refl
+chosen false p = refl
+
+-- node n, as `get` gives it
+taken : {model node : List ℕ} (at n : ℕ) → at ≡ n → 6 * at + 6 ≤ length model → node ≡ slice_range model (6 * at) (6 * at + 6) → Stands model node n
+taken at n e inside is = record { inside = omega arith; is = rw e at is }
+
+pub returns-in_err-node : goal.returns-in_err-node
+returns-in_err-node c =
+    let l = c.loop in
     let a = c.args in
-    sym (walk_outside a.model.now a.features.now a.phones _ a.start c.if-model-at.true)
-
-pub loop-left-init : goal.loop-left-init
-loop-left-init c =
-    let a = c.args in
-    walking_start a.model.now a.features.now a.phones a.start (omega arith)
-
-pub returns-then-wide-phones : goal.returns-then-wide-phones
-returns-then-wide-phones c =
-    let w = c.loop-left.invariant in
-    sym (walking_phone w (omega arith) c.in-255.is (rw c.wide.ensures.0 at c.if-wide-phones.true))
+    let past = c.in_err-node.ensures.lookup in
+    let out = node_outside a.model.now a.features.now l.n (omega arith) in
+    c.from_residual.ensures ∙ sym (l.invariant.1 ∙ walk_turn a.model.now a.features.now a.phones (length a.model.now / 6 - l.counter) l.n Outside (omega arith) out)
 
 pub returns-in-255 : goal.returns-in-255
 returns-in-255 c =
-    let w = c.loop-left.invariant in
-    sym (walking_no_phone w (omega arith) c.in-255.is (rw c.wide.ensures.0 at c.if-wide-phones.false))
+    let l = c.loop in
+    let a = c.args in
+    let node = c.in_ok-node.node.now in
+    let look = c.in_ok-node.ensures.lookup.0 in
+    let s = taken c.from-at.result l.n c.from-at.ensures look.1 look.2 in
+    c.then_some.ensures ∙ chosen _ _ ∙ rw c.from.ensures (sym (l.invariant.1 ∙ walk_turn a.model.now a.features.now a.phones (length a.model.now / 6 - l.counter) l.n (Leaf (get_or node 1 0)) (omega arith) (node_leaf s a.features.now c.in-255.is)))
 
-pub returns-then-model-at-2 : goal.returns-then-model-at-2
-returns-then-model-at-2 c =
-    let w = c.loop-left.invariant in
-    let e = node_match w c.u16_in.ensures (omega (arith, c.in-0-to-7.if-first-lt8-own.true)) (rw c.wide-in-0-to-7.ensures.0 at c.if-features-wide.true) in
-    sym (walking_out w (omega arith) e c.if-model-at-2.true)
-
-pub returns-then-model-at-3 : goal.returns-then-model-at-3
-returns-then-model-at-3 c =
-    let w = c.loop-left.invariant in
-    let e = node_miss w c.u16_in-else-features-wide.ensures (omega (arith, c.in-0-to-7.if-first-lt8-own.true)) (rw c.wide-in-0-to-7.ensures.0 at c.if-features-wide.false) in
-    sym (walking_out w (omega arith) e c.if-model-at-3.true)
-
-pub returns-then-model-at-4 : goal.returns-then-model-at-4
-returns-then-model-at-4 c =
-    let w = c.loop-left.invariant in
-    let e = node_never w c.u16_in-in-8-to-254.ensures c.in-8-to-254.if-first-lt8-own.false c.in-8-to-254.in_default-own.rest.1 in
-    sym (walking_out w (omega arith) e c.if-model-at-4.true)
+pub loop-preserved : goal.loop-preserved
+loop-preserved c =
+    let l = c.loop in
+    let a = c.args in
+    let node = c.in_ok-node.node.now in
+    let look = c.in_ok-node.ensures.lookup.0 in
+    let s : Stands a.model.now node l.n = taken c.from-at.result l.n c.from-at.ensures look.1 look.2 in
+    let f = a.features.now in
+    let m = c.u16_in-n.result in
+    let next : node_at a.model.now a.features.now l.n ≡ Next m =
+    elim c.if-this-lt8.branch [
+      | in-0-to-7 w ↦ node_match s f (rw w.link-is at c.u16_in-n.ensures) (omega arith) (rw w.from-then-this-lt8.ensures at w.if-features-from.true)
+      | in_default-2 w ↦ node_miss s f (rw w.link-is at c.u16_in-n.ensures) (omega arith) (rw w.from-then-this-lt8.ensures at w.if-features-from.false)
+      | in_default w ↦ node_never s f (rw w.link-is at c.u16_in-n.ensures) (omega arith) (λ e. omega arith)
+    ] in
+    let left : length a.model.now / 6 - l.counter - 1 ≡ length a.model.now / 6 - (l.counter + 1) = omega arith in
+    (c.u16_in-n.type_inv, rw (← left) (l.invariant.1 ∙ walk_turn a.model.now a.features.now a.phones (length a.model.now / 6 - l.counter) l.n (Next m) (omega arith) next))
 
 pub returns : goal.returns
 returns c =
-    let w = c.loop-left.invariant in
-    sym (walking_end w (omega arith))
-
-pub loop-left-preserved : goal.loop-left-preserved
-loop-left-preserved c =
-    let i = c.loop-left.invariant in
-    elim c.if-first-lt8.branch [
-      | in-0-to-7+then-features-wide+else-model-at-2 w ↦
-          let e = node_match i w.u16_in.ensures (omega (arith, w.in-0-to-7.if-first-lt8-own.true)) (rw w.wide-in-0-to-7.ensures.0 at w.if-features-wide.true) in
-          rw w.at-is (walking_on i (omega arith) e w.if-model-at-2.false)
-      | in-0-to-7+else-features-wide+else-model-at-3 w ↦
-          let e = node_miss i w.u16_in-else-features-wide.ensures (omega (arith, w.in-0-to-7.if-first-lt8-own.true)) (rw w.wide-in-0-to-7.ensures.0 at w.if-features-wide.false) in
-          rw w.at-is (walking_on i (omega arith) e w.if-model-at-3.false)
-      | in-8-to-254+else-model-at-4 w ↦
-          let e = node_never i w.u16_in-in-8-to-254.ensures w.in-8-to-254.if-first-lt8-own.false w.in-8-to-254.in_default-own.rest.1 in
-          rw w.at-is (walking_on i (omega arith) e w.if-model-at-4.false)
-    ]
+    let l = c.loop in
+    let a = c.args in
+    sym (l.invariant.1 ∙ walk_end a.model.now a.features.now a.phones (length a.model.now / 6 - l.counter) l.n (omega arith))

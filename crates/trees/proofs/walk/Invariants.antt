@@ -1,14 +1,8 @@
--- `trees::walk` meets its contract: before each turn the walk stands inside the model, and each arm is one law of its turn. Assumes nothing.
-use native.Mathlib.Omega.{arith}
-use mathlib.Core.Path.{sym}
-use mathlib.Core.Logic.{⊎_elim}
-use Rattle.trees.proofs.Turn.{Walking, walk_outside, walking_start, node_match, node_miss, node_never, walking_end, walking_phone, walking_no_phone, walking_out, walking_on}
+-- `trees::walk` meets its contract: what the walk comes to from its node over the turns left is what it comes to. Assumes nothing.
+use Rattle.std.proofs.Common.{◌≡◌, ◌-◌, ◌/◌, ◌<◌, length}
+use Rattle.trees.specs.Walk.{walk}
 use Rattle.trees.proofs.walk.Given as goal
 
-abbrev pub invariant-loop-left : goal.invariant-loop-left
-invariant-loop-left l =
-    Walking l.model l.features l.phones l.start l.left l.at
-
-abbrev pub decreases-loop-left : goal.decreases-loop-left
-decreases-loop-left l =
-    l.left
+abbrev pub invariant-loop : goal.invariant-loop
+invariant-loop l =
+    (l.n < 65536) × (walk l.model l.features l.phones (length l.model / 6) l.start ≡ walk l.model l.features l.phones (l.end - l.counter) l.n)

@@ -1,34 +1,14 @@
--- `compiled::is_spoken` meets its contract: the numbers passed have phones, so the numbers left decide. Assumes nothing.
-use Rattle.compiled_spec.specs.Entries.{is_spoken}
-use Rattle.texts.specs.Lists.{every_turn, every_stop, every_end}
-use borrow.Author.Tests.{lt-ltb, le-ltb}
-use lib.ListN.{get_or}
-use lib.Dec.{ltb}
-use mathlib.Core.Path.{sym, ◌∙◌}
-use native.Mathlib.Omega.{arith}
-use Prim.Native.Nat.{ℕ}
+-- `compiled::is_spoken` meets its contract: `all` is the library's `list_all`. Assumes nothing.
+use Rattle.std.proofs.Common.{rules, tests, sym, ◌∙◌, ltb, ℕ}
+use Rattle.std.proofs.lemmas.Iterator.{YieldsList-from_slice}
+use Rattle.std.proofs.lemmas.Iterator.Search.{all_from_yields_List}
+use Rattle.texts.specs.Laws.Library.{every_list_all}
+use Rattle.compiled_spec.specs.Entries.{is_spoken, numbers_of}
 use Rattle.compiled.proofs.entries.is_spoken.Goals as goal
 
-pub loop-i-init : goal.loop-i-init
-unfolding is_spoken
-loop-i-init c = (omega arith, rw (c.numbers-numbers.ensures, c.table_count-count.ensures.0))
-
-pub returns-then-count-wide : goal.returns-then-count-wide
-returns-then-count-wide c =
-    let l = c.loop-i in
-    let ns = c.numbers-numbers.result.now in
-    let n = c.table_count-count.result in
-    sym (l.invariant.1 ∙ every_stop (λ (k : ℕ). ltb k n) ns l.i 0 (omega arith) (le-ltb (get_or ns l.i 0) n (omega arith)))
-
-pub loop-i-preserved : goal.loop-i-preserved
-loop-i-preserved c =
-    let l = c.loop-i in
-    let ns = c.numbers-numbers.result.now in
-    let n = c.table_count-count.result in
-    (omega arith, l.invariant.1 ∙ every_turn (λ (k : ℕ). ltb k n) ns l.i 0 (omega arith) (lt-ltb (get_or ns l.i 0) n (omega arith)))
-
 pub returns : goal.returns
+unfolding is_spoken
 returns c =
-    let l = c.loop-i in
-    let n = c.table_count-count.result in
-    sym (l.invariant.1 ∙ every_end (λ (k : ℕ). ltb k n) c.numbers-numbers.result.now l.i (omega arith))
+    let ns = numbers_of c.args.s.now in
+    let has = λ (n : ℕ). ltb n c.table_count-count.result in
+    all_from_yields_List has _ _ c.all.result c.all.ensures.ran (YieldsList-from_slice ns cc) (λ x b q k. search (rules, tests)) ∙ sym (every_list_all has ns) ∙ rw c.table_count-count.ensures.0

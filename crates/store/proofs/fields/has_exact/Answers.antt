@@ -1,32 +1,32 @@
--- `store::has_exact` meets its contract: no slot passed is exact, so those below decide. Assumes nothing.
-use Rattle.store_spec.proofs.Laws.Exact.{exact_at, exact_hit, exact_turn, exact_end}
-use Rattle.store_spec.specs.Store.{entry_at}
-use borrow.Author.Tests.{eq-eqb, ne_eqb}
-use lib.Dec.{eqb}
-use mathlib.Core.Bool.{true, false}
-use mathlib.Core.Path.{◌≡◌, refl, sym, ap, ◌∙◌}
-use native.Mathlib.Omega.{arith}
-use Prim.Native.Nat.{ℕ}
+-- `store::has_exact` meets its contract: `any` of the numbers from 1 to n. Assumes nothing.
+use Rattle.std.proofs.Common.{arith, rules, tests, ◌≡◌, ℕ, zero, suc, ◌+◌, add-zero, ◌*◌, Bool, ◌||◌, List, refl, sym, ◌∙◌, get_or, eqb}
+use Rattle.std.proofs.Math.Bool.{or-true}
+use Rattle.std.specs.List.{list_any, range_with_len}
+use Rattle.std.proofs.lemmas.Iterator.{YieldsList-from_range}
+use Rattle.std.proofs.lemmas.Iterator.Search.{any_from_yields_List}
+use Rattle.texts.specs.Choice.{cases}
+use Rattle.store_spec.specs.Laws.Exact.{has_exact}
+use Rattle.store_spec.proofs.Laws.Exact.{exact_at}
 use Rattle.store.proofs.fields.has_exact.Goals as goal
 
-pub loop-k-init : goal.loop-k-init
-loop-k-init c = (refl, omega arith)
+-- the last number first
+any_last : (f : ℕ → Bool) (a n : ℕ) → list_any f (range_with_len a (suc n)) ≡ (f (a + n) || list_any f (range_with_len a n))
+any_last f a zero = rw add-zero refl
+any_last f a (suc n) =
+    let e : a + suc n ≡ a + 1 + n = omega arith in
+    rw (e, any_last f (a + 1) n) (cases (f a) (λ t. rw t (sym (or-true (f (a + 1 + n))))) (λ t. rw t))
 
-pub returns-then-byte_at-eq1 : goal.returns-then-byte_at-eq1
-returns-then-byte_at-eq1 c =
-    let told : eqb c.byte_at.result 1 ≡ (entry_at c.args.store.now c.loop-k.k).exact =
-    ap (λ (x : ℕ). eqb x 1) c.byte_at.ensures ∙ exact_at c.args.store.now c.loop-k.k in
-    let l = c.loop-k in
-    let e : (entry_at c.args.store.now l.k).exact ≡ true = sym (told) ∙ eq-eqb c.byte_at.result 1 c.if-byte_at-eq1.true in
-    sym (l.invariant.0 ∙ exact_hit c.args.store.now l.k (omega arith) e)
+-- what the closure tells of slot k
+abbrev told : List ℕ → ℕ → Bool
+told b k = eqb (get_or b (512 * k + 52) 0) 1
 
-pub loop-k-preserved : goal.loop-k-preserved
-loop-k-preserved c =
-    let told : eqb c.byte_at.result 1 ≡ (entry_at c.args.store.now c.loop-k.k).exact =
-    ap (λ (x : ℕ). eqb x 1) c.byte_at.ensures ∙ exact_at c.args.store.now c.loop-k.k in
-    let l = c.loop-k in
-    let e : (entry_at c.args.store.now l.k).exact ≡ false = sym (told) ∙ ne_eqb c.byte_at.result 1 c.if-byte_at-eq1.false in
-    (l.invariant.0 ∙ exact_turn c.args.store.now l.k (omega arith) e, omega arith)
+any_exact : (b : List ℕ) (n : ℕ) → list_any (told b) (range_with_len 1 n) ≡ has_exact b n
+unfolding has_exact
+any_exact b zero = refl
+any_exact b (suc n) = let e : 1 + n ≡ suc n = omega arith in any_last (told b) 1 n ∙ rw (e, exact_at b (suc n), any_exact b n)
 
 pub returns : goal.returns
-returns c = sym (c.loop-k.invariant.0 ∙ exact_end c.args.store.now c.loop-k.k (omega arith))
+returns c =
+    any_from_yields_List (told c.args.store.now) _ _ c.any.result c.any.ensures.ran
+    (YieldsList-from_range 1 (c.args.n + 1) c.args.n refl (omega arith)) (λ x b q k. search (rules, tests))
+    ∙ any_exact c.args.store.now c.args.n

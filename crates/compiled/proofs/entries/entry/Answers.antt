@@ -1,8 +1,0 @@
--- `compiled::entry` meets its contract: the entry's offset is a u32, so it is a size. Assumes nothing.
-use Rattle.compiled_spec.specs.Entries.{entry_at}
-use mathlib.Core.Path.{◌∙◌}
-use Rattle.compiled.proofs.entries.entry.Goals as goal
-
-pub returns : goal.returns
-unfolding entry_at
-returns c = c.tail.ensures ∙ rw c.u32_at.ensures

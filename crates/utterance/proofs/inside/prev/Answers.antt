@@ -1,8 +1,0 @@
--- `utterance::inside::prev` meets its contract: the field at byte 10 of an item inside. Assumes nothing.
-use Rattle.items_spec.specs.Item.{item_of}
-use Rattle.utterance_spec.specs.Sheet.{at}
-use Rattle.utterance.proofs.inside.prev.Goals as goal
-
-pub returns : goal.returns
-unfolding at item_of
-returns c = c.field.ensures
