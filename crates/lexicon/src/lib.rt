@@ -20,6 +20,7 @@ ghost use Rattle.lexicon.specs.Parts.{held, answer};
 
 use answers::{Found, Refusal, Source};
 use compiled_spec::Damaged;
+use store::Wanted;
 
 // The slot of the oldest entry of a sound store with this word, exact or ordinary, whose tag agrees.
 #[tactic(auto, using(crate::proofs::Parts::oldest_none, crate::proofs::Parts::oldest_some))]
@@ -28,7 +29,13 @@ fn oldest(store: &[u8], exact: bool, word: &[u8], tag: u8) -> Option<usize>
     ensures which { held store.now result ≡ first (is_wanted exact true word.now tag) (entries store.now) }
     ensures inside { IfSome result (λ n. n < 65536) }
 {
-    let p = store::seek(store, store::used(store), exact, true, word, tag);
+    let wanted = Wanted {
+        exact,
+        any: true,
+        word,
+        tag,
+    };
+    let p = store::seek(store, store::used(store), &wanted);
     let n = store::next(store, p);
     if n == 0 { None } else { Some(n) }
 }
