@@ -1,2 +1,0 @@
--- What the answers share. Assumes nothing.
-pub mod Behind
