@@ -65,7 +65,7 @@ unfoldable pub of_length : ℕ → List (List ℕ) → List (List ℕ)
 of_length n [] = []
 of_length n (v ∷ vs) = when eqb (length v) n then v ∷ of_length n vs else of_length n vs
 
-by_length : (x : List ℕ) (vs : List (List ℕ)) → some (same x) vs ≡ some (same x) (of_length (length x) vs)
+pub by_length : (x : List ℕ) (vs : List (List ℕ)) → some (same x) vs ≡ some (same x) (of_length (length x) vs)
 unfolding some of_length
 by_length x [] = refl
 by_length x (v ∷ vs) =
