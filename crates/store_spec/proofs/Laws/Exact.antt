@@ -1,6 +1,6 @@
 -- Theorems about `specs/Laws/Exact.antt`: Whether a store has an exact entry, told of its slots by number: where none has, all its entries are ordinary.
 -- Assumes nothing.
-use Rattle.std.specs.Prelude.{ℕ, zero, suc, ◌+◌, ◌*◌, ◌≤◌, ◌≢◌, ◌≡◌, refl, true, false, List, [], ◌∷◌, map, eqb, get_or}
+use Rattle.std.specs.Prelude.{ℕ, zero, suc, ◌+◌, ◌-◌, ◌*◌, ◌≤◌, ◌<◌, ◌≢◌, ◌≡◌, refl, true, false, List, [], ◌∷◌, map, eqb, get_or}
 use Rattle.std.proofs.Common.{arith, ap, ◌∙◌, eqb-true}
 use Rattle.std.proofs.lemmas.Bool.{eqb-false}
 use Rattle.texts.specs.Choice.{cases}
@@ -18,6 +18,22 @@ use Rattle.store_spec.specs.Laws.Exact.{has_exact}
 pub exact_at : (b : List ℕ) (n : ℕ) → eqb (get_or b (512 * n + 52) 0) 1 ≡ (entry_at b n).exact
 unfolding entry_at entry_of
 exact_at b n = rw (byte_of 512 b n 52 (omega arith))
+
+-- from the last slot down: one that is exact, one that is not, and the end
+pub exact_hit : (b : List ℕ) (k : ℕ) → 0 < k → (entry_at b k).exact ≡ true → has_exact b k ≡ true
+unfolding has_exact
+exact_hit b zero l h = absurd (omega arith)
+exact_hit b (suc k) l h = rw h
+
+pub exact_turn : (b : List ℕ) (k : ℕ) → 0 < k → (entry_at b k).exact ≡ false → has_exact b k ≡ has_exact b (k - 1)
+unfolding has_exact
+exact_turn b zero l h = absurd (omega arith)
+exact_turn b (suc k) l h = let z : suc k - 1 ≡ k = omega arith in rw (h, z)
+
+pub exact_end : (b : List ℕ) (k : ℕ) → k ≤ 0 → has_exact b k ≡ false
+unfolding has_exact
+exact_end b zero l = refl
+exact_end b (suc k) l = absurd (omega arith)
 
 -- where none is exact, each of them holds an ordinary entry
 each_ordinary : (b : List ℕ) (n : ℕ) → has_exact b n ≡ false → (k : ℕ) → k ≢ 0 → k ≤ n → is_ordinary (entry_at b k) ≡ true

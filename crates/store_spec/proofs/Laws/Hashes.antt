@@ -1,10 +1,11 @@
 -- Theorems about `specs/Laws/Hashes.antt`: A number for each key, by which most keys are told apart: entries of one key have one hash.
 -- Assumes nothing.
-use Rattle.std.specs.Prelude.{ℕ, suc, ◌+◌, ◌-◌, ◌<◌, ◌≡◌, ◌≢◌, List, [], ◌∷◌, ◌++◌, map, eqb, length, get_or, take, drop, set}
-use Rattle.std.proofs.Common.{arith, sym, ap, ◌∙◌, append_assoc, append-nil, length-drop, drop-drop, get_or-drop}
+use Rattle.std.specs.Prelude.{ℕ, suc, ◌+◌, ◌-◌, ◌≤◌, ◌<◌, ◌≡◌, ◌≢◌, Bool, ◌||◌, List, [], ◌∷◌, ◌++◌, map, eqb, length, get_or, take, drop, set}
+use Rattle.std.proofs.Math.Numerals.{add-one}
+use Rattle.std.proofs.Common.{arith, sym, ap, ◌∙◌, append_assoc, append-nil, length-drop, drop_of_length-le, drop-cons, drop-drop, get_or-drop}
 use Rattle.std.proofs.Math.Path.{refl}
 use Rattle.std.proofs.Math.Bool.{true, false}
-use borrow.Author.Tests.{eq-eqb}
+use borrow.Author.Tests.{eq-eqb, ne_eqb}
 use Rattle.texts.specs.Choice.{is_false, never}
 use Rattle.texts.specs.Lists.{some}
 use Rattle.texts.specs.Text.{is}
@@ -13,7 +14,7 @@ use Rattle.records.specs.Chain.{chain, chain_turn}
 use Rattle.slots_spec.specs.Slot.{Entry}
 use Rattle.store_spec.specs.Store.{entry_at, same_key}
 use Rattle.store_spec.proofs.Laws.Keys.{key_true, either_false}
-use Rattle.store_spec.specs.Laws.Hashes.{hash_of, hash_at}
+use Rattle.store_spec.specs.Laws.Hashes.{hash_of, hash_at, some_left}
 
 same_hash : (a b : Entry) → same_key a b ≡ true → hash_of b ≡ hash_of a
 unfolding hash_of
@@ -28,6 +29,27 @@ hash_absent b n (x ∷ xs) h =
     let k : same_key (entry_at b n) (entry_at b x) ≡ false =
     is_false (same_key (entry_at b n) (entry_at b x)) (λ e. never (eqb (hash_at b x) (hash_at b n)) (eq-eqb (hash_at b x) (hash_at b n) (same_hash (entry_at b n) (entry_at b x) e)) s.0) in
     rw (k, hash_absent b n xs s.1)
+
+module _ (m : ℕ) (l : List ℕ) (found : Bool) (i : ℕ) where
+  pub some_met : i < length l → get_or l i 0 ≡ m → some_left m l found i ≡ some_left m l true (i + 1)
+  unfolding some_left some is
+  some_met h e = go found (rw (drop-cons l i 0 h, eq-eqb (get_or l i 0) m e))
+    where
+      go : (t : Bool) → some (is m) (drop i l) ≡ true → (t || some (is m) (drop i l)) ≡ true
+      go true k = refl
+      go false k = k
+
+  pub some_passed : i < length l → get_or l i 0 ≢ m → some_left m l found i ≡ some_left m l found (i + 1)
+  unfolding some_left some is
+  some_passed h e = rw (drop-cons l i 0 h, add-one, ne_eqb (get_or l i 0) m e)
+
+  pub some_left_lem : length l ≤ i → some_left m l found i ≡ found
+  unfolding some_left some
+  some_left_lem h = rw (drop_of_length-le l h) (go found)
+    where
+      go : (t : Bool) → (t || false) ≡ t
+      go true = refl
+      go false = refl
 
 -- hashes along a chain: read one by one, and written one by one
 module _ (f g : ℕ → ℕ) (hashes : List ℕ) where

@@ -13,6 +13,7 @@ use Rattle.store_spec.specs.Adding.{without, adding, cut_out, tied}
 use Rattle.store_spec.specs.Sound.{Slot, Sound}
 use Rattle.store_spec.proofs.Laws.Bytes.{Kept, kept_kept}
 use Rattle.store_spec.proofs.Laws.Keys.{without_one}
+use Rattle.store_spec.proofs.Laws.Sought.{none}
 use Rattle.store_spec.proofs.Laws.Cut.{from, cut_linked, cut_length, cut_last, cut_used, cut_kept, cut_other, cut_zeros, not_last}
 use Rattle.store_spec.proofs.Laws.Tied.{tied_linked, tied_last, tied_used, tied_length, tied_kept, tied_other, tied_entry, tied_sound, tied_zeros}
 use Rattle.store_spec.specs.Result.{Added}

@@ -15,6 +15,7 @@ use Rattle.store_spec.specs.Adding.{adding, tied}
 use Rattle.store_spec.specs.Sound.{Slot, Sound}
 use Rattle.store_spec.proofs.Laws.Bytes.{Kept, kept_same, kept_kept, field_next, field_record, field_zeros}
 use Rattle.store_spec.proofs.Laws.Keys.{without_none}
+use Rattle.store_spec.proofs.Laws.Sought.{none}
 use Rattle.store_spec.proofs.Laws.Tied.{tied_linked, tied_last, tied_length, tied_kept, tied_other, tied_entry, tied_sound, tied_zeros}
 use Rattle.store_spec.specs.Result.{Added}
 use Rattle.store_spec.proofs.Result.{all_of, map_kept, is_added, few, within, last_within}

@@ -12,9 +12,10 @@ use Rattle.records.specs.Fields.{put16}
 use Rattle.records.specs.Records.{record_at, put_record}
 use Rattle.records.specs.Chain.{chain, end_of, chain_turn, chain_stop, chain_end}
 use Rattle.slots_spec.specs.Slot.{Entry, slot, is_slot}
-use Rattle.store_spec.specs.Store.{next, last, entry_at, walks}
+use Rattle.store_spec.specs.Store.{next, last, entry_at, same_key, keys_differ, walks}
 use Rattle.store_spec.specs.Adding.{seek, tied}
 
+-- a slot that ends within the store has 512 bytes
 -- the last of a chain
 module _ (f : ℕ → ℕ) where
   pub end_turn : (left p q : ℕ) → 0 < left → q ≡ f p → q ≢ 0 → end_of p (chain f left p) ≡ end_of q (chain f (left - 1) q)
@@ -46,6 +47,29 @@ module _ (f : ℕ → ℕ) (g : ℕ → Entry) (test : Entry → Bool) where
   pub has_end : (left p : ℕ) → left ≤ 0 → some test (map g (chain f left p)) ≡ false
   unfolding some
   has_end left p h = ap (λ (l : List ℕ). some test (map g l)) (chain_end f left p h)
+
+-- keys in the chain
+module _ (f : ℕ → ℕ) (g : ℕ → Entry) where
+  differ : List ℕ → Bool
+  differ l = keys_differ (map g l)
+
+  pub keys_turn : (left p q : ℕ) → 0 < left → q ≡ f p → q ≢ 0 → some (same_key (g q)) (map g (chain f (left - 1) q)) ≡ false
+      → keys_differ (map g (chain f left p)) ≡ keys_differ (map g (chain f (left - 1) q))
+  unfolding keys_differ differ
+  keys_turn left p q h e n t = ap differ (chain_turn f left p q h e n) ∙ rw t
+
+  pub keys_hit : (left p q : ℕ) → 0 < left → q ≡ f p → q ≢ 0 → some (same_key (g q)) (map g (chain f (left - 1) q)) ≡ true
+      → keys_differ (map g (chain f left p)) ≡ false
+  unfolding keys_differ differ
+  keys_hit left p q h e n t = ap differ (chain_turn f left p q h e n) ∙ rw t
+
+  pub keys_stop : (left p : ℕ) → f p ≡ 0 → keys_differ (map g (chain f left p)) ≡ true
+  unfolding keys_differ differ
+  keys_stop left p e = ap differ (chain_stop f left p e)
+
+  pub keys_end : (left p : ℕ) → left ≤ 0 → keys_differ (map g (chain f left p)) ≡ true
+  unfolding keys_differ differ
+  keys_end left p h = ap differ (chain_end f left p h)
 
 -- the walk that counts
 module _ (b : List ℕ) (top : ℕ) where
