@@ -7,6 +7,7 @@ ghost use Rattle.answers.specs.Told.{told_looked};
 ghost use Rattle.lookup.specs.Lookup.{lookup as lookup_of, looked_up};
 
 use answers::{Found, Refusal};
+use compiled::Lexicon;
 
 #[tactic(auto, unfolding(crate::specs::Lookup::lookup, crate::specs::Lookup::looked_up, lexicon_spec::specs::Lookup::wanted_tag), using(texts::specs::Text::word_short))]
 pub fn lookup(
@@ -21,24 +22,13 @@ pub fn lookup(
     ensures result_value { told_looked result ≡ lookup_of phones.now index.now dat.now store.now word.now tag.now out.old }
     ensures out_after { out.new ≡ looked_up phones.now index.now dat.now store.now word.now tag.now out.old }
 {
-    let mut places = [0u16; 256];
-    if !compiled::read_lexicon(phones, index, &mut places) {
-        return Err(Refusal::Section);
-    }
+    let mut places = [0; 256];
+    let lexicon = Lexicon::read(phones, index, dat, &mut places).ok_or(Refusal::Section)?;
     if !sound_store::is_sound(store) {
         return Err(Refusal::Unsound);
     }
     if !(texts::is_word(word) && texts::is_word(tag)) {
         return Err(Refusal::Text);
     }
-    lexicon::find(
-        phones,
-        &places,
-        index,
-        dat,
-        store,
-        word,
-        texts::first_or_any(tag),
-        out,
-    )
+    lexicon::find(&lexicon, store, word, texts::first_or_any(tag), out)
 }

@@ -8,7 +8,7 @@ use Rattle.check_lexicon.proofs.are_good.Goals as goal
 
 pub returns : goal.returns
 returns c =
-    let a = c.args in
-    let f = is_good a.phones.now a.index.now a.lex_data.now in
-    let n = c.count.result in
-    all_from_yields_List f _ _ c.all.result c.all.ensures.ran (YieldsList-from_range 0 n n refl (omega arith)) (λ x b q k. search (rules, tests)) ∙ sym (below_all f n) ∙ rw c.count.ensures.0
+    let l = c.args.lexicon.now in
+    let f = is_good l.table.bytes.now l.index.now l.entries.now in
+    let n = c.len.result in
+    all_from_yields_List f _ _ c.all.result c.all.ensures.ran (YieldsList-from_range 0 n n refl (omega arith)) (λ x b q k. search (rules, tests)) ∙ sym (below_all f n) ∙ rw c.len.ensures.0

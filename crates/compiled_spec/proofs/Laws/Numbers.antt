@@ -1,6 +1,6 @@
 -- Tests at the numbers below n: at each of them, and the first that passes.
 -- Assumes nothing.
-use Rattle.std.specs.Prelude.{ℕ, zero, suc, ◌+◌, ◌≤◌, ◌<◌, ◌≡◌, refl, Bool, true, false, List, get_or, drop}
+use Rattle.std.specs.Prelude.{ℕ, zero, suc, ◌+◌, ◌-◌, ◌≤◌, ◌<◌, ◌≡◌, refl, Bool, true, false, List, get_or, drop}
 use Rattle.std.proofs.Common.{arith, sym, ap, ◌∙◌, add-one}
 use Rattle.std.specs.List.{list_all, range_with_len}
 use Rattle.texts.specs.Lists.{every, every_at, place, place_turn, place_stop, place_end, from, up_to, length_from, get_d_from}
@@ -12,10 +12,22 @@ unfolding from
 from_range k zero = refl
 from_range k (suc n) = rw (from_range (suc k) n, add-one) refl
 
+behind_range : (f : ℕ → Bool) (k n : ℕ) → every f (from k n) ≡ list_all (λ (i : ℕ). f (i - 1)) (range_with_len (k + 1) n)
+unfolding every from
+behind_range f k zero = refl
+behind_range f k (suc n) =
+    let e : k + 1 - 1 ≡ k = omega arith in
+    let s : suc k ≡ k + 1 = omega arith in
+    rw (e, ← s) (rw (behind_range f (suc k) n) (rw add-one refl))
+
 module _ (f : ℕ → Bool) (n : ℕ) where
   -- `all` over them
   pub below_all : every f (up_to n) ≡ list_all f (range_with_len 0 n)
   below_all = every_list_all f (up_to n) ∙ ap (λ (l : List ℕ). list_all f l) (from_range 0 n)
+
+  -- `all` over the numbers 1 to n, each of which asks for the one before it
+  pub before_all : every f (up_to n) ≡ list_all (λ (i : ℕ). f (i - 1)) (range_with_len 1 n)
+  before_all = behind_range f 0 n
 
   -- the test at the number that a turn reads
   read : (i : ℕ) → i < n → f (get_or (up_to n) i 0) ≡ f i
