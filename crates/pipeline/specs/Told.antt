@@ -14,4 +14,4 @@ told_pronounced (Ok p) = accepted_with p.source p.phones p.stopped 0
 
 -- the six sections
 abbrev pub tables_of : Sections → Tables
-tables_of s = tables s.phones.now s.index.now s.lex_data.now s.trees.table.bytes.now s.trees.index.now s.trees.model.now
+tables_of s = tables s.lexicon.table.bytes.now s.lexicon.index.now s.lexicon.entries.now s.trees.table.bytes.now s.trees.index.now s.trees.model.now

@@ -7,6 +7,7 @@ ghost use Rattle.records.specs.Fields.{u32_at};
 ghost use Rattle.data.specs.Places.{places as places_of};
 ghost use Rattle.compiled_spec.specs.Lexicon.{is_lexicon};
 
+use compiled::Lexicon;
 use lts::Trees;
 
 mod cutting;
@@ -15,16 +16,11 @@ mod saying;
 
 pub use cutting::prepare;
 
-// The sections that say word takes, each in its form: the lexicon's, with the places of its phones, and the letter trees.
-#[derive(Drop)]
+// The sections that say word takes: the lexicon's and the letter trees'.
+#[derive(Clone, Copy)]
 pub struct Sections<'a> {
-    pub phones: &'a [u8],
-    places: [u16; 256],
-    pub index: &'a [u8],
-    pub lex_data: &'a [u8],
+    pub lexicon: Lexicon<'a>,
     pub trees: Trees<'a>,
-    ghost are_lexicon: { is_lexicon phones.now index.now ≡ true },
-    ghost placed: { take (u32_at phones.now 0) places ≡ places_of (u32_at phones.now 0) phones.now 4 },
 }
 
 // What a word comes to: how many phones, the place where its letters stopped, and its source as the sheet has it (1 runtime,

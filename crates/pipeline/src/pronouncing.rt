@@ -10,6 +10,7 @@ ghost use Rattle.pipeline.specs.Told.{told_pronounced, tables_of};
 
 use crate::{Pronounced, Sections};
 use answers::{Found, Refusal};
+use compiled::Lexicon;
 use lts::Trees;
 
 // Phones that were found stay; a word that no source has goes to the letter trees.
@@ -40,29 +41,23 @@ fn spoken(
 }
 
 impl<'a> Sections<'a> {
-    // The sections that these are, if each has its form (sounds is lts.phones, starts lts.index).
+    // The sections that these are, if each has its form (sounds is lts.phones, starts lts.index); the places of each table's phones go
+    // into the memory that the caller lends.
     pub fn read(
         phones: &'a [u8],
         index: &'a [u8],
         lex_data: &'a [u8],
+        places: &'a mut [u16; 256],
         sounds: &'a [u8],
         starts: &'a [u8],
         model: &'a [u8],
+        spots: &'a mut [u16; 256],
     ) -> Option<Sections<'a>>
         ensures { MatchOption result ((is_lexicon phones.now index.now && is_trees sounds.now starts.now model.now) ≡ false) (λ s. tables_of s ≡ tables phones.now index.now lex_data.now sounds.now starts.now model.now) }
     {
-        let mut places = [0; 256];
-        if !compiled::read_lexicon(phones, index, &mut places) {
-            return None;
-        }
-        let trees = Trees::read(sounds, starts, model)?;
-        Some(Sections {
-            phones,
-            places,
-            index,
-            lex_data,
-            trees,
-        })
+        let lexicon = Lexicon::read(phones, index, lex_data, places)?;
+        let trees = Trees::read(sounds, starts, model, spots)?;
+        Some(Sections { lexicon, trees })
     }
 
     // The phones of a word as cells at the front of a room of 96, its source and where its letters stopped. A refused lookup
@@ -79,16 +74,7 @@ impl<'a> Sections<'a> {
         ensures result_value { told_pronounced result ≡ told_spoken (pronounced (tables_of self.now) (entries store.now) word.now tag.now) }
         ensures room_after { room.new ≡ cells_spoken (pronounced (tables_of self.now) (entries store.now) word.now tag.now) room.old }
     {
-        let looked = lexicon::find(
-            self.phones,
-            &self.places,
-            self.index,
-            self.lex_data,
-            store,
-            word,
-            texts::first_or_any(tag),
-            room,
-        )?;
+        let looked = lexicon::find(&self.lexicon, store, word, texts::first_or_any(tag), room)?;
         spoken(looked, &self.trees, word, room)
     }
 }
