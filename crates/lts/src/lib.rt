@@ -52,14 +52,13 @@ fn put_leaf(phone: &[u8], list: &mut [u8], at: usize) -> usize
     if texts::same(phone, b"epsilon") {
         return at;
     }
-    let dash = texts::find(phone, b'-');
-    if dash < phone.len() {
-        cells::put_cell(list, at - 1, &phone[dash + 1..]);
-        cells::put_cell(list, at - 2, &phone[..dash]);
-        return at - 2;
-    }
-    cells::put_cell(list, at - 1, phone);
-    at - 1
+    let Some(dash) = phone.iter().position(|&b| b == b'-') else {
+        cells::put_cell(list, at - 1, phone);
+        return at - 1;
+    };
+    cells::put_cell(list, at - 1, &phone[dash + 1..]);
+    cells::put_cell(list, at - 2, &phone[..dash]);
+    at - 2
 }
 
 // The three sections of the letter trees.
