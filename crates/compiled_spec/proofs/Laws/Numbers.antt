@@ -3,7 +3,7 @@
 use Rattle.std.specs.Prelude.{ℕ, zero, suc, ◌+◌, ◌-◌, ◌≤◌, ◌<◌, ◌≡◌, refl, Bool, true, false, List, get_or, drop}
 use Rattle.std.proofs.Common.{arith, sym, ap, ◌∙◌, add-one}
 use Rattle.std.specs.List.{list_all, range_with_len}
-use Rattle.texts.specs.Lists.{every, every_at, place, place_turn, place_stop, place_end, from, up_to, length_from, get_d_from}
+use Rattle.texts.specs.Lists.{every, every_turn, every_stop, every_end, every_at, place, place_turn, place_stop, place_end, from, up_to, length_from, get_d_from}
 use Rattle.texts.specs.Laws.Library.{every_list_all}
 
 -- they are the library's range
@@ -32,6 +32,16 @@ module _ (f : ℕ → Bool) (n : ℕ) where
   -- the test at the number that a turn reads
   read : (i : ℕ) → i < n → f (get_or (up_to n) i 0) ≡ f i
   read i h = let e : get_or (up_to n) i 0 ≡ i = omega (arith, get_d_from 0 n i 0 h) in ap f e
+
+  -- from a number on
+  pub below_turn : (i : ℕ) → i < n → f i ≡ true → every f (drop i (up_to n)) ≡ every f (drop (i + 1) (up_to n))
+  below_turn i h e = every_turn f (up_to n) i 0 (omega (arith, length_from 0 n)) (read i h ∙ e)
+
+  pub below_stop : (i : ℕ) → i < n → f i ≡ false → every f (drop i (up_to n)) ≡ false
+  below_stop i h e = every_stop f (up_to n) i 0 (omega (arith, length_from 0 n)) (read i h ∙ e)
+
+  pub below_end : (i : ℕ) → n ≤ i → every f (drop i (up_to n)) ≡ true
+  below_end i h = every_end f (up_to n) i (omega (arith, length_from 0 n))
 
   pub below_at : every f (up_to n) ≡ true → (i : ℕ) → i < n → f i ≡ true
   below_at t i h = sym (read i h) ∙ every_at f (up_to n) 0 t i (omega (arith, length_from 0 n))
