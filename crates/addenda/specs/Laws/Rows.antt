@@ -105,6 +105,9 @@ module _ (table : List (List ℕ)) (e : table ≡ map encoded addenda) (n : ℕ)
   pub row_at : get_or table n [] ≡ encoded (get_or addenda n no_addendum)
   row_at = rw e (get_d_map encoded addenda n no_addendum [] (rw addenda_count h))
 
+  pub row_meant : (word : List ℕ) (tag : ℕ) → is_meant_by word tag (get_or table n []) ≡ is_meant word tag (get_or addenda n no_addendum)
+  row_meant word tag = rw row_at (encoded_meant word tag (get_or addenda n no_addendum))
+
 -- row n of the table fits
 module _ (n : ℕ) (h : n < 42) where
   fitting : fits (get_or addenda n no_addendum) ≡ true
