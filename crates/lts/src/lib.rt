@@ -78,7 +78,9 @@ impl<'a> Trees<'a> {
         model: &'a [u8],
         places: &'a mut [u16; 256],
     ) -> Option<Trees<'a>>
-        ensures { MatchOption result (is_trees phones.now index.now model.now ≡ false) (λ t. (t.table.bytes ≡ phones.entry) × (t.index ≡ index.entry) × (t.model ≡ model.entry)) }
+        ensures { MatchOption result
+            (is_trees phones.now index.now model.now ≡ false)
+            (λ t. (t.table.bytes ≡ phones.entry) × (t.index ≡ index.entry) × (t.model ≡ model.entry)) }
     {
         let table = Table::read(phones, places)?;
         if !data::is_lts_index(index) || !data::is_lts_model(model) {
@@ -95,7 +97,8 @@ impl<'a> Trees<'a> {
     fn put_letter(&self, text: &[u8], k: usize, list: &mut [u8], at: usize) -> Option<usize>
         requires le_k { (4 ≤ k) × (k + 4 < length text.now) }
         requires le_at { (2 ≤ at) × (16 * at ≤ length list.old) }
-        ensures { Puts (letter self.now.table.bytes.now self.now.index.now self.now.model.now text.now k) list.old at result list.new }
+        ensures { let t = self.now in
+            Puts (letter t.table.bytes.now t.index.now t.model.now text.now k) list.old at result list.new }
     {
         match text[k] {
             b @ b'a'..=b'z' => {
@@ -110,7 +113,8 @@ impl<'a> Trees<'a> {
     // The phones of a word, at the end of a list of 94 cells: leftwards from the last byte until "#"; and where that stopped.
     pub fn spell(&self, word: &[u8], list: &mut [u8]) -> Option<Spelled>
         requires { (length word.now ≤ 47) × (length list.old ≡ 1504) }
-        ensures { Spells (letters self.now.table.bytes.now self.now.index.now self.now.model.now word.now) (stopped word.now) list.old result list.new }
+        ensures { let t = self.now in
+            Spells (letters t.table.bytes.now t.index.now t.model.now word.now) (stopped word.now) list.old result list.new }
     {
         let room = padded(word);
         let text = &room[..word.len() + 8];
@@ -136,8 +140,10 @@ impl<'a> Trees<'a> {
         out: &mut [u8],
     ) -> Result<Predicted, Refusal>
         requires { (length word.now ≤ 47) × (length list.old ≡ 1504) }
-        ensures result_value { told_predicted result ≡ told_phones (letters self.now.table.bytes.now self.now.index.now self.now.model.now word.now) (stopped word.now) out.old }
-        ensures out_after { out.new ≡ out_phones (letters self.now.table.bytes.now self.now.index.now self.now.model.now word.now) (stopped word.now) out.old }
+        ensures result_value { let t = self.now in
+            told_predicted result ≡ told_phones (letters t.table.bytes.now t.index.now t.model.now word.now) (stopped word.now) out.old }
+        ensures out_after { let t = self.now in
+            out.new ≡ out_phones (letters t.table.bytes.now t.index.now t.model.now word.now) (stopped word.now) out.old }
     {
         let Spelled { first, stopped } = self.spell(word, list).ok_or(Refusal::Damaged)?;
         let cells = &list[16 * first..];
