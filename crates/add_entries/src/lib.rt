@@ -8,6 +8,7 @@ ghost use Rattle.add_entries.specs.AddEntries.{add_entries, store_after, spare_a
 
 use answers::{AtLine, Refusal};
 
+#[tactic(auto, unfolding(crate::specs::AddEntries::add_entries, crate::specs::AddEntries::store_after, crate::specs::AddEntries::spare_after, crate::specs::AddEntries::barred))]
 pub fn add_entries(
     table: &[u8],
     store: &mut [u8],

@@ -167,8 +167,7 @@ pub fn find(
     if let Some(n) = runtime(store, word, tag) {
         return give_cells(slots::phones(store::slot(store, n)), out);
     }
-    let row = addenda::find(word, tag);
-    if row < 42 {
+    if let Some(row) = addenda::find(word, tag) {
         return give_row(row, out);
     }
     give_compiled(lexicon, word, tag, out)

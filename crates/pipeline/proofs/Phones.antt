@@ -43,7 +43,7 @@ said_with c store sheet word tag room cells source place n f t k =
 -- by the sections that were read, and what was pronounced
 module _ (s : Sections) (store word tag room : List ℕ) where
   formed : is_sound store ≡ true → Formed (tables_of s) store
-  formed h = record { store_sound = h; lexicon = s.are_lexicon; trees = s.trees.are_trees }
+  formed h = record { store_sound = h; lexicon = s.lexicon.is_lexicon; trees = s.trees.are_trees }
 
   pub few_cells : (rest : List ℕ) (r : Result Pronounced Refusal) → is_sound store ≡ true → told_pronounced r ≡ told_spoken (pronounced (tables_of s) (entries store) word tag)
       → rest ≡ cells_spoken (pronounced (tables_of s) (entries store) word tag) room → length rest ≡ 1536 → IfOk r (λ p. p.phones ≤ 96)

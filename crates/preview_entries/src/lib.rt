@@ -8,6 +8,7 @@ ghost use Rattle.preview_entries.specs.PreviewEntries.{preview_entries, spare_af
 
 use answers::{AtLine, Previewed, Refusal};
 
+#[tactic(auto, unfolding(crate::specs::PreviewEntries::preview_entries, crate::specs::PreviewEntries::spare_after, crate::specs::PreviewEntries::barred))]
 pub fn preview_entries(
     table: &[u8],
     store: &[u8],

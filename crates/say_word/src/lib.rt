@@ -10,6 +10,7 @@ ghost use Rattle.say_word.specs.SayWord.{say_word, sheet_after};
 use answers::Refusal;
 use pipeline::Sections;
 
+#[tactic(auto, unfolding(crate::specs::SayWord::say_word, crate::specs::SayWord::sheet_after), using(texts::specs::Text::word_short))]
 pub fn say_word(
     phones: &[u8],
     index: &[u8],

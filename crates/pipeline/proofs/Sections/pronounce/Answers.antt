@@ -1,17 +1,12 @@
 -- `pipeline::Sections::pronounce` meets its contract: a refused lookup refuses the word, any other is followed up. Assumes nothing.
-use Rattle.std.proofs.Common.{rules, ◌∙◌}
+use Rattle.std.proofs.Common.{◌∙◌}
 use Rattle.std.proofs.lemmas.Result.{err_from_is_err_and}
-use Rattle.data.specs.Places.{Placed}
 use Rattle.store_spec.specs.Store.{entries}
 use Rattle.lexicon_spec.specs.Lookup.{wanted_tag}
 use Rattle.pipeline_spec.proofs.Laws.ChosenSource.{word_refused, word_followed}
 use Rattle.pipeline.proofs.Phones.{few_cells}
 use Rattle.pipeline.specs.Told.{tables_of}
 use Rattle.pipeline.proofs.Sections.pronounce.Goals as goal
-
-pub find-requires-clause-placed : goal.find-requires-clause-placed
-unfolding Placed
-find-requires-clause-placed c = (search rules, c.args.self.now.placed)
 
 pub returns-in_err-looked : goal.returns-in_err-looked
 unfolding wanted_tag
