@@ -5,30 +5,15 @@
 mod calls;
 mod damage;
 
-// The number of a call that is run here, 0 for any other name.
-pub fn call_number(name: &[u8]) -> u8 {
-    if texts::same(name, b"read_settings") {
-        return 1;
-    }
-    if texts::same(name, b"write_setting") {
-        return 2;
-    }
-    if texts::same(name, b"damage_read_settings") {
-        return 3;
-    }
-    if texts::same(name, b"damage_write_setting") {
-        return 4;
-    }
-    0
-}
+use caseline::Case;
 
-// A line by the name of its call.
-pub fn run(line: &[u8], regs: &[u8], room: &mut [u8], out: &mut [u8]) -> bool {
-    match call_number(caseline::token(line, 0)) {
-        1 => calls::run_read_settings(line, regs, room),
-        2 => calls::run_write_setting(line, regs, room, out),
-        3 => damage::run_damage_read_settings(line, regs, room, out),
-        4 => damage::run_damage_write_setting(line, regs, room, out),
-        _ => false,
+// A line by the name of its call: whether it passed; None where the call is none of these or the line cannot be read.
+pub fn run(line: &[u8], regs: &[u8], room: &mut [u8], out: &mut [u8]) -> Option<bool> {
+    match caseline::token(line, 0) {
+        b"read_settings" => calls::read_settings(Case::read(line, 3, regs, room)?),
+        b"write_setting" => calls::write_setting(Case::read(line, 5, regs, room)?, out),
+        b"damage_read_settings" => damage::damage_read_settings(Case::read(line, 3, regs, room)?, out),
+        b"damage_write_setting" => damage::damage_write_setting(Case::read(line, 6, regs, room)?, out),
+        _ => None,
     }
 }
