@@ -1,15 +1,14 @@
 -- Cells as the code cuts them out of a list. Assumes nothing.
 use native.Mathlib.Nat.{zero-sub, suc-sub-suc, sub-zero, suc-add}
 use native.Mathlib.Numerals.{one-add}
-use Prim.Native.Nat.{ℕ, zero, suc, ◌+◌, ◌-◌, ◌*◌, ◌/◌, ◌≤◌, ◌<◌, min}
+use Prim.Native.Nat.{ℕ, zero, suc, ◌+◌, ◌-◌, ◌*◌, ◌≤◌, min}
 use native.Mathlib.Omega.{arith}
 use native.Mathlib.Decide.{dec_le}
-use mathlib.Core.Path.{◌≡◌, refl, sym, ap, ◌∙◌}
-use mathlib.Core.Bool.{Bool}
+use mathlib.Core.Path.{◌≡◌, sym, ap, ◌∙◌}
 use mathlib.Core.List.{List, [], ◌∷◌, ◌++◌, append_assoc}
 use lib.ListN.{length, get_or, take, drop, set, replicate, length-drop}
 use lib.Seq.{take_all, take-length, drop-append-le, paste}
-use Rattle.records.specs.Records.{records, record_of_lem, byte_of, put_record}
+use Rattle.records.specs.Records.{put_record}
 use Rattle.cells.specs.Cells.{text, cell, length_cell}
 
 -- a cell has 15 bytes behind its length byte, so a longer text is all of them
@@ -20,10 +19,6 @@ text_cut c h = go (dec_le (get_or c 0 0) 15) (rw length-drop (omega arith))
     go : Dec (get_or c 0 0 ≤ 15) → length (drop 1 c) ≡ 15 → take (get_or c 0 0) (drop 1 c) ≡ take (min (get_or c 0 0) 15) (drop 1 c)
     go (yes p) l = let m : min (get_or c 0 0) 15 ≡ get_or c 0 0 = omega arith in rw m
     go (no f) l = take_all (get_or c 0 0) (drop 1 c) (omega arith) ∙ sym (take_all (min (get_or c 0 0) 15) (drop 1 c) (omega arith))
-
--- the first byte of a cell
-pub first_byte : (b : List ℕ) (i : ℕ) → i < length b / 16 → get_or (get_or (records 16 b) i []) 0 0 ≡ get_or b (16 * i) 0
-first_byte b i h = let e : 16 * i + 0 ≡ 16 * i = omega arith in rw (record_of_lem 16 i b h, byte_of 16 b i 0 (omega arith), e)
 
 drop_replicate : (n m : ℕ) → drop n (replicate m zero) ≡ replicate (m - n) zero
 drop_replicate zero m = rw sub-zero

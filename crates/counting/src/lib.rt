@@ -9,7 +9,7 @@ ghost use Rattle.store_spec.specs.Store.{count as count_of, with_count, largest 
 pub fn largest() -> u64
     ensures { result ≡ largest_count }
 {
-    18446744073709551615
+    u64::MAX
 }
 
 // The count.
@@ -33,7 +33,6 @@ pub fn take_spare(store: &mut [u8], spare: &[u8])
     requires { (512 ≤ length store.old) × (length spare.now ≡ length store.old) × (count_of spare.now ≢ largest_count) }
     ensures { store.new ≡ with_count spare.now (count_of spare.now + 1) }
 {
-    let seen = count(spare);
-    records::copy_in(store, 0, spare);
-    set_count(store, seen + 1);
+    store.copy_from_slice(spare);
+    set_count(store, count(spare) + 1);
 }

@@ -7,15 +7,14 @@ ghost use Rattle.store_spec.specs.Store.{next as next_of, entry_at, same_key, ke
 
 use crate::hashes;
 
-// Whether one of the n slots behind p has the key of the entry in slot m.
-fn has_key(store: &[u8], m: usize, p: usize, n: usize) -> bool
-    requires { (m < 65536) × (p < 65536) }
-    ensures { result ≡ some (same_key (entry_at store.now m)) (map (entry_at store.now) (chain (next_of store.now) n p)) }
+// Whether one of the n slots behind p has the key of the entry in slot p.
+fn has_key(store: &[u8], p: usize, n: usize) -> bool
+    requires { p < 65536 }
+    ensures { result ≡ some (same_key (entry_at store.now p)) (map (entry_at store.now) (chain (next_of store.now) n p)) }
 {
-    let wanted = store::slot(store, m);
+    let wanted = store::slot(store, p);
     let mut q = p;
-    let mut left = n;
-    while 0 < left {
+    for _ in 0..n {
         q = store::next(store, q);
         if q == 0 {
             return false;
@@ -29,20 +28,17 @@ fn has_key(store: &[u8], m: usize, p: usize, n: usize) -> bool
         ) {
             return true;
         }
-        left -= 1;
     }
     false
 }
 
 // Whether one of the n slots behind p has the key of the entry in slot p, whose hash this is, where others are theirs.
+#[tactic(auto, using(store_spec::proofs::Laws::Hashes::hash_absent, texts::specs::Laws::Library::some_list_any), unfolding(texts::specs::Text::is))]
 fn is_repeated(store: &[u8], p: usize, n: usize, hash: u16, others: &[u16]) -> bool
     requires { (p < 65536) × (hash ≡ hash_at store.now p) × (others.now ≡ map (hash_at store.now) (chain (next_of store.now) n p)) }
     ensures { result ≡ some (same_key (entry_at store.now p)) (map (entry_at store.now) (chain (next_of store.now) n p)) }
 {
-    if !hashes::has_hash(others, hash) {
-        return false;
-    }
-    has_key(store, p, p, n)
+    others.contains(&hash) && has_key(store, p, n)
 }
 
 // Whether no two of the n entries behind slot 0 have one key, where these are their hashes.
@@ -51,18 +47,11 @@ fn are_apart(store: &[u8], n: usize, hashes: &[u16]) -> bool
     ensures { result ≡ keys_differ (map (entry_at store.now) (chain (next_of store.now) n 0)) }
 {
     let mut p = 0;
-    let mut i = 0;
-    let mut left = n;
-    while 0 < left {
+    for (i, &hash) in hashes.iter().enumerate() {
         p = store::next(store, p);
-        if p == 0 {
-            return true;
-        }
-        left -= 1;
-        if is_repeated(store, p, left, hashes[i], &hashes[i + 1..]) {
+        if is_repeated(store, p, n - (i + 1), hash, &hashes[i + 1..]) {
             return false;
         }
-        i += 1;
     }
     true
 }
@@ -72,7 +61,7 @@ pub fn keys_differ(store: &[u8], n: usize) -> bool
     requires { n ≤ 127 }
     ensures { result ≡ keys_differ (map (entry_at store.now) (chain (next_of store.now) n 0)) }
 {
-    let mut hashes = [0u16; 127];
+    let mut hashes = [0; 127];
     let count = hashes::put_hashes(&mut hashes, store, n);
-    are_apart(store, n, &hashes[0..count])
+    are_apart(store, n, &hashes[..count])
 }

@@ -1,13 +1,12 @@
 // A number for each key, by which most keys are told apart without their words.
 ghost use Rattle.std.specs.Prelude.{◌≡◌, map, ◌≤◌, ◌<◌, length, take};
-ghost use Rattle.texts.specs.Lists.{some};
-ghost use Rattle.texts.specs.Text.{is};
 ghost use Rattle.records.specs.Chain.{chain};
 ghost use Rattle.slots_spec.specs.Slot.{entry_of};
 ghost use Rattle.store_spec.specs.Store.{next as next_of};
 ghost use Rattle.store_spec.specs.Laws.Hashes.{hash_of, hash_at};
 
 // The hash of the key of the entry in a slot.
+#[tactic(auto, unfolding(store_spec::specs::Laws::Hashes::hash_of))]
 fn hash(slot: &[u8]) -> u16
     ensures { result ≡ hash_of (entry_of slot.now) }
 {
@@ -20,31 +19,12 @@ pub fn put_hashes(hashes: &mut [u16], store: &[u8], n: usize) -> usize
     ensures { (result ≤ length hashes.new) × (take result hashes.new ≡ map (hash_at store.now) (chain (next_of store.now) n 0)) }
 {
     let mut p = 0;
-    let mut j = 0;
-    let mut left = n;
-    while 0 < left {
+    for j in 0..n {
         p = store::next(store, p);
         if p == 0 {
             return j;
         }
         hashes[j] = hash(store::slot(store, p));
-        j += 1;
-        left -= 1;
     }
-    j
-}
-
-// Whether a hash stands in a list.
-pub fn has_hash(hashes: &[u16], m: u16) -> bool
-    ensures { result ≡ some (is m) hashes.now }
-{
-    let mut found = false;
-    let mut i = 0;
-    while i < hashes.len() {
-        if hashes[i] == m {
-            found = true;
-        }
-        i += 1;
-    }
-    found
+    n
 }

@@ -1,1 +1,2 @@
 pub mod Walk
+mod ByPlace

@@ -2,7 +2,7 @@
 -- Assumes nothing.
 use Prim.Native.Nat.{ℕ, zero, suc, ◌+◌, ◌*◌, ◌-◌, ◌/◌, ◌≤◌, ◌<◌}
 use native.Mathlib.Omega.{arith}
-use Rattle.std.specs.Prelude.{◌≡◌, true, ◌&&◌, List, [], ltb, length, take, drop}
+use Rattle.std.specs.Prelude.{◌≡◌, true, ◌&&◌, List, [], ltb, length, take, drop, Option as Walked, Some, None}
 use Rattle.std.proofs.Math.Path.{refl}
 use Rattle.std.proofs.Common.{subst, length-take, length-drop, length-append}
 use Rattle.std.proofs.Math.Option.{Option, none, some}
@@ -15,8 +15,6 @@ use Rattle.texts.specs.Text.{bytes, ascii, is, same, is_word, is_phone, word_sho
 use Rattle.records.specs.Fields.{u16_at, u32_at}
 use Rattle.data.specs.Sections.{is_phone_table, table_phones, length_table, table_fits}
 use Rattle.trees.specs.Walk.{walk}
-use Rattle.trees.specs.declared.Walked.{Walked}
-use Rattle.trees.specs.declared.Walked.TheVariants.{Phone, Damaged}
 use Rattle.lts_spec.specs.Letters.{padded, window, spoken, is_trees, leaf, letter, joined, up_to, letters}
 use Rattle.lts_spec.proofs.Letters.{trees_table}
 use Rattle.lts_spec.specs.FewPhones.{Few, AreFit}
@@ -30,9 +28,9 @@ spoken_few x =
     (λ f. rw (e, f) (omega arith)))
 
 module _ (phones index model : List ℕ) where
-  leaf_few : (w : Walked) → Few 2 (leaf phones index model w)
-  leaf_few (Phone p) = spoken_few (get_or (table_phones phones) p [])
-  leaf_few Damaged = tt
+  leaf_few : (w : Walked ℕ) → Few 2 (leaf phones index model w)
+  leaf_few (Some p) = spoken_few (get_or (table_phones phones) p [])
+  leaf_few None = tt
 
   letter_few : (text : List ℕ) (k : ℕ) → Few 2 (letter phones index model text k)
   unfolding letter
@@ -82,9 +80,9 @@ spoken_fit x h =
     (λ f. rw (e, f, b.0, b.1)))
 
 module _ (phones index model : List ℕ) (t : is_phone_table phones ≡ true) where
-  leaf_fit : (w : Walked) → AreFit (leaf phones index model w)
-  leaf_fit (Phone p) = spoken_fit (get_or (table_phones phones) p []) (table_phone phones p t)
-  leaf_fit Damaged = tt
+  leaf_fit : (w : Walked ℕ) → AreFit (leaf phones index model w)
+  leaf_fit (Some p) = spoken_fit (get_or (table_phones phones) p []) (table_phone phones p t)
+  leaf_fit None = tt
 
   letter_fit : (text : List ℕ) (k : ℕ) → AreFit (letter phones index model text k)
   unfolding letter every

@@ -1,6 +1,6 @@
 -- Theorems about `specs/Letters.antt`: 01, Letter trees: the phones of a word, by the trees of its letters; and 02, S-5: the place where these stop.
 -- Assumes nothing.
-use Rattle.std.specs.Prelude.{ℕ, ◌+◌, ◌-◌, ◌*◌, ◌/◌, ◌%◌, ◌≤◌, ◌<◌, ◌≡◌, true, false, ◌&&◌, List, [], ◌∷◌, eqb, leb, length, get_or, take, drop}
+use Rattle.std.specs.Prelude.{ℕ, ◌+◌, ◌-◌, ◌*◌, ◌/◌, ◌%◌, ◌≤◌, ◌<◌, ◌≡◌, true, false, ◌&&◌, List, [], ◌∷◌, eqb, leb, length, get_or, take, drop, Option as Walked}
 use Rattle.std.proofs.Math.Option.{some}
 use Rattle.std.proofs.Common.{arith}
 use borrow.Author.Tests.{lt-ltb, le-ltb, le-leb, lt-leb, eqb-true}
@@ -10,7 +10,6 @@ use Rattle.texts.specs.Text.{bytes, same, is}
 use Rattle.records.specs.Fields.{u16_at, u32_at}
 use Rattle.data.specs.Sections.{is_phone_table, is_lts_index, is_lts_model}
 use Rattle.trees.specs.Walk.{walk}
-use Rattle.trees.specs.declared.Walked.{Walked}
 use Rattle.lts_spec.specs.Letters.{window, spoken, is_trees, leaf, letter}
 
 -- the phones of a leaf, by the tests
@@ -37,7 +36,7 @@ module _ (phones index model text : List ℕ) (k : ℕ) where
   unfolding letter
   letter_right h = rw (le-leb 97 (get_or text k 0) (omega arith), lt-leb (get_or text k 0) 122 h)
 
-  pub letter_walked : 97 ≤ get_or text k 0 → get_or text k 0 ≤ 122 → (w : Walked)
+  pub letter_walked : 97 ≤ get_or text k 0 → get_or text k 0 ≤ 122 → (w : Walked ℕ)
       → walk model (window text k) (u32_at phones 0) (length model / 6) (u16_at index (2 * (get_or text k 0 - 97))) ≡ w
       → letter phones index model text k ≡ leaf phones index model w
   unfolding letter

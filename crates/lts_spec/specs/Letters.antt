@@ -1,6 +1,6 @@
 -- 01, Letter trees: the phones of a word, by the trees of its letters; and 02, S-5: the place where these stop.
 -- Assumes nothing.
-use Rattle.std.specs.Prelude.{ℕ, zero, suc, ◌+◌, ◌-◌, ◌*◌, ◌/◌, Bool, ◌&&◌, List, [], ◌∷◌, ◌++◌, map, leb, ltb, length, get_or, take, drop}
+use Rattle.std.specs.Prelude.{ℕ, zero, suc, ◌+◌, ◌-◌, ◌*◌, ◌/◌, Bool, ◌&&◌, List, [], ◌∷◌, ◌++◌, map, leb, ltb, length, get_or, take, drop, Option as Walked, Some, None}
 use Rattle.std.proofs.Math.Option.{Option, none, some}
 use Rattle.texts.specs.Choice.{when◌then◌else◌}
 use Rattle.texts.specs.Lists.{place, behind_last}
@@ -8,8 +8,6 @@ use Rattle.texts.specs.Text.{bytes, folded, same, is}
 use Rattle.records.specs.Fields.{u16_at, u32_at}
 use Rattle.data.specs.Sections.{is_phone_table, table_phones, is_lts_index, is_lts_model}
 use Rattle.trees.specs.Walk.{walk}
-use Rattle.trees.specs.declared.Walked.{Walked}
-use Rattle.trees.specs.declared.Walked.TheVariants.{Phone, Damaged as damaged}
 
 -- the folded word between "000#" and "#000"
 unfoldable pub padded : List ℕ → List ℕ
@@ -38,9 +36,9 @@ is_trees phones index model = is_phone_table phones && is_lts_index index && is_
 
 module _ (phones index model : List ℕ) where
   -- the phones of the leaf that a walk came to
-  abbrev pub leaf : Walked → Option (List (List ℕ))
-  leaf (Phone p) = some (spoken (get_or (table_phones phones) p []))
-  leaf damaged = none
+  abbrev pub leaf : Walked ℕ → Option (List (List ℕ))
+  leaf (Some p) = some (spoken (get_or (table_phones phones) p []))
+  leaf None = none
 
   -- the phones of the byte at place k of a padded word: a letter's by its tree, none of any other byte
   unfoldable pub letter : List ℕ → ℕ → Option (List (List ℕ))

@@ -1,2 +1,3 @@
 -- What the answers share. Assumes nothing.
 pub mod Phones
+pub mod Put

@@ -10,10 +10,11 @@ ghost use Rattle.syllabify.specs.Syllables.{marks as marks_of};
 ghost use Rattle.pipeline_spec.specs.Cutting.{stressed as stressed_of, cuts_of};
 
 // A phone without its stress.
+#[tactic(auto, using(phoneset::specs::Stress::bare_front, phoneset::specs::Stress::bare_short))]
 fn bare_phone(version: u8, phone: &[u8]) -> &[u8]
     ensures { result.now ≡ bare_of (digits version) phone.now }
 {
-    records::head(phone, phoneset::split_stress(version, phone).bare)
+    &phone[..phoneset::split_stress(version, phone).bare]
 }
 
 // The bare phones of a list as cells at the front of dst.
@@ -21,15 +22,13 @@ fn put_bare(version: u8, dst: &mut [u8], phones: &[u8])
     requires { 16 * (length phones.now / 16) ≤ length dst.old }
     ensures { dst.new ≡ cells_of (map (bare_of (digits version)) (phones_of phones.now)) ++ drop (16 * (length phones.now / 16)) dst.old }
 {
-    let n = phones.len() / 16;
-    let mut i = 0;
-    while i < n {
+    for i in 0..phones.len() / 16 {
         cells::put_cell(dst, i, bare_phone(version, cells::phone(phones, i)));
-        i += 1;
     }
 }
 
 // The stress behind a phone: its own, else the one before it.
+#[tactic(auto, using(pipeline_spec::proofs::Laws::Cuts::stress_own, pipeline_spec::proofs::Laws::Cuts::stress_kept))]
 fn stressed(version: u8, before: u8, phone: &[u8]) -> u8
     ensures { result ≡ stressed_of version before phone.now }
 {
@@ -56,25 +55,22 @@ fn put_cuts(version: u8, dst: &mut [u8], phones: &[u8], marks: &[u8])
     requires { (length phones.now / 16 ≤ length dst.old) × (length phones.now / 16 ≤ length marks.now) }
     ensures { dst.new ≡ cuts_of version 48 marks.now (phones_of phones.now) ++ drop (length phones.now / 16) dst.old }
 {
-    let n = phones.len() / 16;
     let mut last = 48;
-    let mut i = 0;
-    while i < n {
+    for i in 0..phones.len() / 16 {
         let stress = stressed(version, last, cells::phone(phones, i));
         dst[i] = cut_at(marks[i], stress);
         last = carried(marks[i], stress);
-        i += 1;
     }
 }
 
-// The bare phones of a word, its marks and its cuts, each at the front of its room.
-pub fn prepare(version: u8, phones: &[u8], bare: &mut [u8], marks: &mut [u8], cuts: &mut [u8])
-    requires { (length phones.now ≤ 1536) × (length bare.old ≡ 1536) × (length marks.old ≡ 96) × (length cuts.old ≡ 96) }
+// The bare phones of a word and its cuts, each at the front of its room.
+pub fn prepare(version: u8, phones: &[u8], bare: &mut [u8], cuts: &mut [u8])
+    requires { (length phones.now ≤ 1536) × (length bare.old ≡ 1536) × (length cuts.old ≡ 96) }
     ensures bare_after { bare.new ≡ cells_of (map (bare_of (digits version)) (phones_of phones.now)) ++ drop (16 * (length phones.now / 16)) bare.old }
     ensures cuts_after { cuts.new ≡ cuts_of version 48 (marks_of onsets false (map (bare_of (digits version)) (phones_of phones.now))) (phones_of phones.now) ++ drop (length phones.now / 16) cuts.old }
 {
-    let end = 16 * (phones.len() / 16);
+    let mut marks = [0u8; 96];
     put_bare(version, bare, phones);
-    syllabify::mark(records::head(bare, end), marks);
-    put_cuts(version, cuts, phones, marks);
+    syllabify::mark(&bare[..16 * (phones.len() / 16)], &mut marks);
+    put_cuts(version, cuts, phones, &marks);
 }

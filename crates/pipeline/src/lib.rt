@@ -2,8 +2,6 @@
 
 #![tactic(auto)]
 
-use answers::Refusal;
-
 mod cutting;
 mod pronouncing;
 mod saying;
@@ -12,10 +10,11 @@ pub use cutting::prepare;
 pub use pronouncing::pronounce;
 pub use saying::{read_sections, say};
 
-// What a word comes to: a refusal; or how many phones, the place where its letters stopped, and its source (1 runtime,
+// What a word comes to: how many phones, the place where its letters stopped, and its source as the sheet has it (1 runtime,
 // 2 addenda, 3 compiled, 4 the letter trees).
-#[derive(Drop)]
-pub enum Pronounced {
-    Refused(Refusal),
-    Phones(usize, usize, u8),
+#[derive(Clone, Copy, Debug, PartialEq, Eq)]
+pub struct Pronounced {
+    pub phones: usize,
+    pub stopped: usize,
+    pub source: u8,
 }

@@ -4,45 +4,43 @@ ghost use Rattle.data.specs.Places.{Placed};
 ghost use Rattle.store_spec.specs.Store.{is_sound, entries};
 ghost use Rattle.compiled_spec.specs.Lexicon.{is_lexicon};
 ghost use Rattle.lts_spec.specs.Letters.{is_trees, letters, stopped};
-ghost use Rattle.answers.specs.Told.{told_predicted};
 ghost use Rattle.pipeline_spec.specs.Pronounced.{pronounced, tables};
 ghost use Rattle.pipeline_spec.specs.Cutting.{told_spoken, cells_spoken};
-ghost use Rattle.pipeline_spec.specs.Laws.ChosenSource.{by_letters, told_behind, room_behind};
+ghost use Rattle.pipeline_spec.specs.Laws.ChosenSource.{told_behind, room_behind};
 ghost use Rattle.pipeline.specs.Told.{told_pronounced};
 
 use crate::Pronounced;
-use answers::{Looked, Predicted};
-
-// What the letter trees answered, as a word's source.
-fn by_letters(p: Predicted) -> Pronounced
-    ensures { told_pronounced result ≡ by_letters (told_predicted p) }
-{
-    match p {
-        Predicted::Refused(r) => Pronounced::Refused(r),
-        Predicted::Phones(n, place) => Pronounced::Phones(n, place, 4),
-    }
-}
+use answers::{Found, Refusal};
 
 // A chosen source that is none sends the word to the letter trees.
 fn spoken(
-    looked: Looked,
+    looked: Option<Found>,
     phones: &[u8],
     places: &[u16],
     index: &[u8],
     model: &[u8],
     word: &[u8],
     room: &mut [u8],
-) -> Pronounced
+) -> Result<Pronounced, Refusal>
     requires model_value { (is_trees phones.now index.now model.now ≡ true) × (length word.now ≤ 47) }
     requires placed { Placed phones.now places.now }
     ensures result_value { told_pronounced result ≡ told_behind looked (letters phones.now index.now model.now word.now) (stopped word.now) room.old }
     ensures room_after { room.new ≡ room_behind looked (letters phones.now index.now model.now word.now) (stopped word.now) room.old }
 {
-    let Looked::Found(source, n) = looked else {
+    let Some(found) = looked else {
         let mut list = [0u8; 1504];
-        return by_letters(lts::spell_out(phones, places, index, model, word, &mut list, room));
+        let p = lts::spell_out(phones, places, index, model, word, &mut list, room)?;
+        return Ok(Pronounced {
+            phones: p.phones,
+            stopped: p.stopped,
+            source: 4,
+        });
     };
-    Pronounced::Phones(n, 0, answers::source_number(source))
+    Ok(Pronounced {
+        phones: found.phones,
+        stopped: 0,
+        source: answers::source_number(found.source),
+    })
 }
 
 // The phones of a word as cells at the front of a room of 96, its source and where its letters stopped; by the three
@@ -61,7 +59,7 @@ pub fn pronounce(
     word: &[u8],
     tag: &[u8],
     room: &mut [u8],
-) -> Pronounced
+) -> Result<Pronounced, Refusal>
     requires index_value { (is_lexicon phones.now index.now ≡ true) × (is_trees sounds.now starts.now model.now ≡ true) }
     requires store_value { (is_sound store.now ≡ true) × (length word.now ≤ 47) × (length room.old ≡ 1536) }
     requires placed { Placed phones.now places.now × Placed sounds.now spots.now }
@@ -77,9 +75,6 @@ pub fn pronounce(
         word,
         texts::first_or_any(tag),
         room,
-    );
-    match looked {
-        Looked::Refused(r) => Pronounced::Refused(r),
-        _ => spoken(looked, sounds, spots, starts, model, word, room),
-    }
+    )?;
+    spoken(looked, sounds, spots, starts, model, word, room)
 }

@@ -10,51 +10,34 @@ ghost use Rattle.answers.specs.Told.{told_said};
 ghost use Rattle.pipeline_spec.specs.Pronounced.{pronounced, said as said_of, tables};
 ghost use Rattle.pipeline_spec.specs.Placing.{placed, sheet_placed, on_spoken, sheet_spoken};
 
-use crate::{Pronounced, cutting, pronouncing};
-use answers::{Refusal, Said};
+use crate::{cutting, pronouncing};
+use answers::Refusal;
 
-// A pronounced word put last on a sound sheet, if there is room, with its source, its stresses by the sheet's version; place
-// is where its letters stopped, and bare, marks and cuts are rooms to work in.
-fn put_cut(
+// A pronounced word put last on a sound sheet, if there is room, with its source, its stresses by the sheet's version; stopped
+// is where its letters stopped.
+fn put(
     sheet: &mut [u8],
     word: &[u8],
     source: u8,
-    place: usize,
+    stopped: usize,
     phones: &[u8],
-    bare: &mut [u8],
-    marks: &mut [u8],
-    cuts: &mut [u8],
-) -> Said
-    requires sheet_value { (is_sheet sheet.old ≡ true) × (length word.now ≤ 47) × (length phones.now ≤ 1536) }
-    requires bare_len { (length bare.old ≡ 1536) × (length marks.old ≡ 96) × (length cuts.old ≡ 96) }
-    ensures result_value { told_said result ≡ placed sheet.old place (said_of (version sheet.old) word.now source (phones_of phones.now)) }
-    ensures sheet_after { sheet.new ≡ sheet_placed sheet.old place (said_of (version sheet.old) word.now source (phones_of phones.now)) }
-{
-    let n = phones.len() / 16;
-    cutting::prepare(utterance::version(sheet), phones, bare, marks, cuts);
-    let said = records::head(bare, 16 * n);
-    let ends = records::head(cuts, n);
-    let size = appending::size(said, ends);
-    let unused = sheet.len() / 64 - 1 - (utterance::used(sheet) as usize);
-    if unused < size {
-        return Said::Refused(Refusal::Short);
-    }
-    appending::append(sheet, word, source, said, ends);
-    Said::Accepted(place)
-}
-
-// The same, with rooms of its own.
-fn put(sheet: &mut [u8], word: &[u8], source: u8, place: usize, phones: &[u8]) -> Said
+) -> Result<usize, Refusal>
     requires { (is_sheet sheet.old ≡ true) × (length word.now ≤ 47) × (length phones.now ≤ 1536) }
-    ensures result_value { told_said result ≡ placed sheet.old place (said_of (version sheet.old) word.now source (phones_of phones.now)) }
-    ensures sheet_after { sheet.new ≡ sheet_placed sheet.old place (said_of (version sheet.old) word.now source (phones_of phones.now)) }
+    ensures result_value { told_said result ≡ placed sheet.old stopped (said_of (version sheet.old) word.now source (phones_of phones.now)) }
+    ensures sheet_after { sheet.new ≡ sheet_placed sheet.old stopped (said_of (version sheet.old) word.now source (phones_of phones.now)) }
 {
     let mut bare = [0u8; 1536];
-    let mut marks = [0u8; 96];
     let mut cuts = [0u8; 96];
-    put_cut(
-        sheet, word, source, place, phones, &mut bare, &mut marks, &mut cuts,
-    )
+    cutting::prepare(utterance::version(sheet), phones, &mut bare, &mut cuts);
+    let n = phones.len() / 16;
+    let (bare, cuts) = (&bare[..16 * n], &cuts[..n]);
+    let size = appending::size(bare, cuts);
+    let unused = sheet.len() / 64 - 1 - (utterance::used(sheet) as usize);
+    if unused < size {
+        return Err(Refusal::Short);
+    }
+    appending::append(sheet, word, source, bare, cuts);
+    Ok(stopped)
 }
 
 // A word pronounced and put last; room is for its phones.
@@ -72,21 +55,17 @@ pub fn say(
     word: &[u8],
     tag: &[u8],
     room: &mut [u8],
-) -> Said
+) -> Result<usize, Refusal>
     requires index_value { (is_lexicon phones.now index.now ≡ true) × (is_trees sounds.now starts.now model.now ≡ true) }
     requires store_value { (is_sound store.now ≡ true) × (is_sheet sheet.old ≡ true) × (length word.now ≤ 47) × (length room.old ≡ 1536) }
     requires placed { Placed phones.now places.now × Placed sounds.now spots.now }
     ensures result_value { told_said result ≡ on_spoken sheet.old word.now (pronounced (tables phones.now index.now dat.now sounds.now starts.now model.now) (entries store.now) word.now tag.now) }
     ensures sheet_after { sheet.new ≡ sheet_spoken sheet.old word.now (pronounced (tables phones.now index.now dat.now sounds.now starts.now model.now) (entries store.now) word.now tag.now) }
 {
-    match pronouncing::pronounce(
+    let p = pronouncing::pronounce(
         phones, places, index, dat, sounds, spots, starts, model, store, word, tag, room,
-    ) {
-        Pronounced::Refused(r) => Said::Refused(r),
-        Pronounced::Phones(n, place, source) => {
-            put(sheet, word, source, place, records::head(room, 16 * n))
-        }
-    }
+    )?;
+    put(sheet, word, p.source, p.stopped, &room[..16 * p.phones])
 }
 
 // Whether the sections have their form; the places of their tables' phones, if they have.

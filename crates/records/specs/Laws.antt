@@ -2,3 +2,4 @@
 pub mod Zeros
 pub mod Eight
 pub mod Bytes
+pub mod Chunks

@@ -12,19 +12,11 @@ fn walks(store: &[u8], n: usize) -> bool
     ensures { result ≡ walks_of store.now n n 0 }
 {
     let mut p = 0;
-    let mut left = n;
-    while 0 < left {
+    for _ in 0..n {
         p = store::next(store, p);
-        if p == 0 {
+        if p == 0 || n < p || !slots::is_slot(store::slot(store, p)) {
             return false;
         }
-        if n < p {
-            return false;
-        }
-        if !slots::is_slot(store::slot(store, p)) {
-            return false;
-        }
-        left -= 1;
     }
     store::next(store, p) == 0
 }
@@ -34,47 +26,34 @@ fn last_visited(store: &[u8], n: usize) -> usize
     ensures { result ≡ end_of 0 (chain (next_of store.now) n 0) }
 {
     let mut p = 0;
-    let mut left = n;
-    while 0 < left {
+    for _ in 0..n {
         let q = store::next(store, p);
         if q == 0 {
             return p;
         }
         p = q;
-        left -= 1;
     }
     p
 }
 
 // Whether slot 0 behind "used" is zero, but for the count.
+#[tactic(auto, unfolding(store_spec::specs::Store::is_rest))]
 fn is_rest(rest: &[u8]) -> bool
     ensures { result ≡ is_rest rest.now }
 {
-    if !records::are_zeros(records::head(rest, 2)) {
-        return false;
-    }
-    records::are_zeros(records::tail(rest, 10))
+    records::are_zeros(records::head(rest, 2)) && records::are_zeros(records::tail(rest, 10))
 }
 
 // Whether a store is sound.
+#[tactic(auto, unfolding(store_spec::specs::Store::is_sound, store_spec::specs::Store::order, store_spec::specs::Store::entries))]
 pub fn is_sound(store: &[u8]) -> bool
     ensures { result ≡ is_sound store.now }
 {
-    if !store::is_store_length(store.len()) {
-        return false;
-    }
     let n = store::used(store);
-    if store.len() / 512 <= n {
-        return false;
-    }
-    if !is_rest(records::tail(store::slot(store, 0), 6)) {
-        return false;
-    }
-    if !walks(store, n) {
-        return false;
-    }
-    if last_visited(store, n) != records::u16_at(store, 2) as usize {
-        return false;
-    }
-    keys::keys_differ(store, n)
+    store::is_store_length(store.len())
+        && n < store.len() / 512
+        && is_rest(records::tail(store::slot(store, 0), 6))
+        && walks(store, n)
+        && last_visited(store, n) == records::u16_at(store, 2) as usize
+        && keys::keys_differ(store, n)
 }

@@ -1,38 +1,17 @@
--- `cells::are_short` meets its contract: the lengths passed are at most 15, so the cells left decide. Assumes nothing.
-use Prim.Native.Nat.{◌≤◌, ◌-◌, ◌+◌, ◌*◌, ◌/◌}
-use native.Mathlib.Omega.{arith}
-use mathlib.Core.Path.{◌≡◌, refl, sym, ◌∙◌}
-use mathlib.Core.Bool.{true, false}
-use mathlib.Core.List.{[]}
-use lib.ListN.{length, drop, get_or}
-use borrow.Author.Tests.{le-leb, lt-leb}
-use Rattle.texts.specs.Lists.{every, every_turn, every_stop, every_end}
-use Rattle.records.specs.Records.{records, length_records}
+-- `cells::are_short` meets its contract: a list's cells are its whole chunks. Assumes nothing.
+use Rattle.std.proofs.Common.{rules, tests, sym, ◌∙◌}
+use Rattle.std.proofs.lemmas.Iterator.{YieldsList-from_slice}
+use Rattle.std.proofs.lemmas.Iterator.Search.{all_from_yields_List}
+use Rattle.texts.specs.Laws.Library.{every_list_all}
+use Rattle.records.specs.Records.{records}
+use Rattle.records.specs.Laws.Chunks.{chunks_records}
 use Rattle.cells.specs.Cells.{short_cell, short_phones}
-use Rattle.cells.proofs.Cut.{first_byte}
 use Rattle.cells.proofs.are_short.Goals as goal
 
-pub loop-i-init : goal.loop-i-init
-unfolding short_phones
-loop-i-init c = (refl, omega arith, refl)
-
-pub returns-then-list-i-gt15 : goal.returns-then-list-i-gt15
-unfolding short_cell
-returns-then-list-i-gt15 c =
-    let l = c.loop-i in
-    let s = c.args.list.now in
-    let e : short_cell (get_or (records 16 s) l.i []) ≡ false = rw (first_byte s l.i (omega arith)) (lt-leb (get_or s (16 * l.i) 0) 15 (omega arith)) in
-    sym (l.invariant.2 ∙ every_stop short_cell (records 16 s) l.i [] (rw length_records (omega arith)) e)
-
-pub loop-i-preserved : goal.loop-i-preserved
-unfolding short_cell
-loop-i-preserved c =
-    let l = c.loop-i in
-    let s = c.args.list.now in
-    let e : short_cell (get_or (records 16 s) l.i []) ≡ true = rw (first_byte s l.i (omega arith)) (le-leb (get_or s (16 * l.i) 0) 15 (omega arith)) in
-    (l.invariant.0, omega arith, l.invariant.2 ∙ every_turn short_cell (records 16 s) l.i [] (rw length_records (omega arith)) e)
-
 pub returns : goal.returns
+unfolding short_cell short_phones
 returns c =
-    let l = c.loop-i in
-    sym (l.invariant.2 ∙ every_end short_cell (records 16 c.args.list.now) l.i (rw length_records (omega arith)))
+    let s = c.args.list.now in
+    all_from_yields_List short_cell _ _ c.all.result c.all.ensures.ran
+    (YieldsList-from_slice (records 16 s) (rw (← chunks_records 16 s) cc)) (λ x b q k. search (rules, tests))
+    ∙ sym (every_list_all short_cell (records 16 s))

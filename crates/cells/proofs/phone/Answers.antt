@@ -1,6 +1,5 @@
 -- `cells::phone` meets its contract: the 16 bytes cut out are the list's record i. Assumes nothing.
 use Prim.Native.Nat.{ℕ}
-use native.Mathlib.Omega.{arith}
 use mathlib.Core.Path.{sym, ap, ◌∙◌}
 use mathlib.Core.List.{List}
 use Rattle.records.specs.Records.{part_record, record_of_lem}
@@ -11,4 +10,4 @@ pub returns : goal.returns
 returns c =
     let s = c.args.list.now in
     let i = c.args.i in
-    c.text.ensures ∙ ap (λ (c⟪After-text⟫ : List ℕ). text c⟪After-text⟫) (part_record 16 i s c.requires ∙ record_of_lem 16 i s c.requires) ∙ sym (phone_at s i c.requires)
+    c.text.ensures ∙ ap (λ (c : List ℕ). text c) (part_record 16 i s c.requires ∙ record_of_lem 16 i s c.requires) ∙ sym (phone_at s i c.requires)

@@ -12,10 +12,13 @@ use Rattle.answers.specs.declared.Found.{Found}
 use Rattle.answers.specs.Told.{refusal_number, source_number, refused, accepted, told_looked}
 use Rattle.answers.specs.Laws.Numbers.{never_accepted}
 use Rattle.lts_spec.specs.Call.{told_phones, out_phones}
-use Rattle.lexicon_spec.specs.Lookup.{Finding, nothing, damaged, found, told_finding, out_finding}
-use Rattle.pipeline_spec.specs.Pronounced.{on_letters, on_finding}
+use Rattle.slots_spec.specs.Slot.{Entry}
+use Rattle.lts_spec.specs.Letters.{letters, stopped}
+use Rattle.lexicon_spec.specs.Lookup.{Finding, nothing, damaged, found, find, wanted_tag, told_finding, out_finding}
+use Rattle.pipeline_spec.specs.Pronounced.{Sections, on_letters, on_finding, pronounced}
 use Rattle.pipeline_spec.specs.Cutting.{told_spoken, cells_spoken}
 use Rattle.lts_spec.specs.FewPhones.{Few}
+use Rattle.lts_spec.proofs.FewPhones.{letters_few}
 use Rattle.pipeline_spec.specs.Laws.ChosenSource.{by_letters, told_behind, room_behind}
 
 -- no source has the number 0
@@ -61,3 +64,20 @@ lookup_followed (found s ps) m o place room l k h (Some x) e =
     (λ t. let c = holds room ps l t in
     let y : accepted (source_number x.source) x.phones ≡ accepted (source_number s) (length ps) = rw (t, c) at e in
     (rw t y, rw (t, c)))
+
+-- so for what a word comes to, by what its lookup found
+module _ (c : Sections) (es : List Entry) (word tag room : List ℕ) (l : length room ≡ 1536) where
+  abbrev pub finding : Finding
+  finding = find es c.lex_phones c.lex_index c.lex_data word (wanted_tag tag)
+
+  pub word_refused : (r : Refusal) → told_looked (Err r) ≡ told_finding finding room
+      → (refused (refusal_number r) 0 ≡ told_spoken (pronounced c es word tag)) × (out_finding finding room ≡ cells_spoken (pronounced c es word tag) room)
+  unfolding pronounced
+  word_refused r e = lookup_refused finding (letters c.lts_phones c.lts_index c.lts_model word) (stopped word) room l r e
+
+  pub word_followed : length word ≤ 47 → (a : Option Found) → told_looked (Ok a) ≡ told_finding finding room
+      → (told_behind a (letters c.lts_phones c.lts_index c.lts_model word) (stopped word) (out_finding finding room) ≡ told_spoken (pronounced c es word tag))
+      × (room_behind a (letters c.lts_phones c.lts_index c.lts_model word) (stopped word) (out_finding finding room) ≡ cells_spoken (pronounced c es word tag) room)
+  unfolding pronounced
+  word_followed k a e =
+      lookup_followed finding (length word) (letters c.lts_phones c.lts_index c.lts_model word) (stopped word) room l k (letters_few c.lts_phones c.lts_index c.lts_model word) a e

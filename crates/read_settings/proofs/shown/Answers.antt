@@ -36,7 +36,7 @@ returns c =
     let i : is_stretch show ≡ true = sym is-stretch.ensures ∙ if2.false in
     let p : to_z w32 (of_z w32 c.whole_in-pitch.result) ≡ whole_in (pitch_of b) = back c.whole_in-pitch.result (record { sfits = c.whole_in-pitch.type_inv }) ∙ c.whole_in-pitch.ensures ∙ ap whole_in pitch.ensures in
     let s : real-in.result ≡ real_in (stretch_of b) = real-in.ensures ∙ ap real_in stretch.ensures in
-    let l : to_z w32 (of_z w32 c.whole_in.result) ≡ whole_in (level_of b) = back c.whole_in.result (record { sfits = c.whole_in.type_inv }) ∙ c.whole_in.ensures ∙ ap whole_in c.level.ensures in
+    let l : to_z w32 (of_z w32 c.whole_in-level.result) ≡ whole_in (level_of b) = back c.whole_in-level.result (record { sfits = c.whole_in-level.type_inv }) ∙ c.whole_in-level.ensures ∙ ap whole_in c.level.ensures in
     rw (a, i, eq-eqb v 2 (omega arith), p, s, l)
 
 pub returns-then-not-is_stretch : goal.returns-then-not-is_stretch

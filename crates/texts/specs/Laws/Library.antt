@@ -2,7 +2,7 @@
 use Rattle.std.proofs.Common.{arith, sym, nat_eq, ltb, ltb-true, ltb-false, ne_eqb}
 use Rattle.std.specs.Cmp.Lexicographic.{pointwise, slice_partial_cmp}
 use Rattle.std.specs.Ordering.{nat_cmp, partial_lt}
-use Rattle.std.specs.Prelude.{ℕ, Some, eqb, ◌≡◌, refl, Bool, List, [], ◌∷◌, length}
+use Rattle.std.specs.Prelude.{ℕ, Some, eqb, ◌≡◌, refl, Bool, List, [], ◌∷◌, length, map}
 use Rattle.std.specs.Option.{unwrap_or}
 use Rattle.std.specs.List.{list_all, list_any, position, position_or_len}
 use Rattle.texts.specs.Choice.{cases}
@@ -31,6 +31,12 @@ module _ {A : Type 0} (f : A → Bool) where
       cases (ltb (position_or_len f l) (length l))
       (λ e. rw e (sym (place_or_len l)))
       (λ e. rw e (let h = ltb-false (position_or_len f l) (length l) e in let k = place_le f l in let m = place_or_len l in omega arith))
+
+-- a test of each element of a mapped list
+pub every_map : {A B : Type 0} (f : B → Bool) (g : A → B) (l : List A) → every f (map g l) ≡ every (λ x. f (g x)) l
+unfolding every
+every_map f g [] = refl
+every_map f g (x ∷ xs) = rw (every_map f g xs) refl
 
 -- `==` of two slices of bytes
 pub same_pointwise : (a b : List ℕ) → same a b ≡ pointwise nat_eq a b

@@ -1,5 +1,6 @@
 -- `store::has_exact` meets its contract: `any` of the numbers from 1 to n. Assumes nothing.
-use Rattle.std.proofs.Common.{arith, rules, tests, ◌≡◌, ℕ, zero, suc, ◌+◌, add-zero, ◌*◌, Bool, true, false, ◌||◌, refl, ◌∙◌, get_or, eqb}
+use Rattle.std.proofs.Common.{arith, rules, tests, ◌≡◌, ℕ, zero, suc, ◌+◌, add-zero, ◌*◌, Bool, true, false, ◌||◌, refl, sym, ◌∙◌, get_or, eqb}
+use Rattle.std.proofs.Math.Bool.{or-true}
 use Rattle.std.specs.List.{list_any, range_with_len}
 use Rattle.std.proofs.lemmas.Iterator.{YieldsList-from_range}
 use Rattle.std.proofs.lemmas.Iterator.Search.{any_from_yields_List}
@@ -8,16 +9,12 @@ use Rattle.store_spec.specs.Laws.Exact.{has_exact}
 use Rattle.store_spec.proofs.Laws.Exact.{exact_at}
 use Rattle.store.proofs.fields.has_exact.Goals as goal
 
-or_last : (b : Bool) → true ≡ (b || true)
-or_last true = refl
-or_last false = refl
-
 -- the last number first
 any_last : (f : ℕ → Bool) (a n : ℕ) → list_any f (range_with_len a (suc n)) ≡ (f (a + n) || list_any f (range_with_len a n))
 any_last f a zero = rw add-zero refl
 any_last f a (suc n) =
     let e : a + suc n ≡ a + 1 + n = omega arith in
-    rw (e, any_last f (a + 1) n) (cases (f a) (λ t. rw t (or_last (f (a + 1 + n)))) (λ t. rw t))
+    rw (e, any_last f (a + 1) n) (cases (f a) (λ t. rw t (sym (or-true (f (a + 1 + n))))) (λ t. rw t))
 
 any_exact : (b : _) (n : ℕ) → list_any (λ k. eqb (get_or b (512 * k + 52) 0) 1) (range_with_len 1 n) ≡ has_exact b n
 unfolding has_exact

@@ -1,0 +1,23 @@
+-- What the slot that a search tells says of the entries.
+-- Assumes nothing.
+use Rattle.std.specs.Prelude.{ℕ, ◌≡◌, ◌≢◌, Bool, true, List}
+use Rattle.std.proofs.Common.{sym, ◌∙◌, ap}
+use Rattle.std.proofs.Math.Option.{none, some}
+use Rattle.texts.specs.Lists.{first}
+use Rattle.slots_spec.specs.Slot.{Entry}
+use Rattle.store_spec.specs.Store.{is_sound, used, next, entry_at, entries}
+use Rattle.store_spec.specs.Adding.{seek}
+use Rattle.store_spec.specs.Laws.Found.{found_at}
+use Rattle.store_spec.proofs.Laws.Found.{found_none, found_some, tells}
+use Rattle.store_spec.proofs.Sound.{sound}
+
+-- behind the slot that a search tells stands the first entry wanted
+module _ (b : List ℕ) (wanted : Entry → Bool) (n : ℕ) (s : is_sound b ≡ true) (e : n ≡ next b (seek b wanted (used b) 0)) where
+  which : first wanted (entries b) ≡ found_at b n
+  which = (tells b wanted (sound b s)).which ∙ ap (λ (k : ℕ). found_at b k) (sym e)
+
+  pub oldest_none : n ≡ 0 → none ≡ first wanted (entries b)
+  oldest_none z = sym (which ∙ found_none b n z)
+
+  pub oldest_some : n ≢ 0 → some (entry_at b n) ≡ first wanted (entries b)
+  oldest_some z = sym (which ∙ found_some b n z)

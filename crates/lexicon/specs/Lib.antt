@@ -1,0 +1,2 @@
+-- The words of this crate's own contracts.
+pub mod Parts
