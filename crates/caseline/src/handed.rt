@@ -8,23 +8,22 @@ use answers::Answer;
 // The arguments of a call; empty ones stand behind the last.
 pub type Arguments<'a> = [&'a [u8]; 11];
 
-// A line whose arguments were read: what stands behind its arrow, and room for the bytes that that tells.
-#[derive(Drop)]
+// A line whose arguments were read, and what stands behind its arrow.
+#[derive(Clone, Copy)]
 pub struct Case<'a> {
     pub arguments: Arguments<'a>,
     told: &'a [u8],
     regs: &'a [u8],
-    room: &'a mut [u8],
 }
 
 impl<'a> Case<'a> {
-    // A line that has n arguments and an arrow behind them.
+    // A line that has n arguments and an arrow behind them, and the room that they leave.
     pub fn read(
         line: &'a [u8],
         n: usize,
         regs: &'a [u8],
         room: &'a mut [u8],
-    ) -> Option<Case<'a>>
+    ) -> Option<(Case<'a>, &'a mut [u8])>
         requires { n < 12 }
     {
         let mut tokens = line.splitn(n + 3, |&b| b == b' ');
@@ -38,22 +37,25 @@ impl<'a> Case<'a> {
         let b"->" = tokens.next()? else {
             return None;
         };
-        Some(Case {
-            arguments,
-            told: tokens.next().unwrap_or_default(),
-            regs,
+        let told = tokens.next().unwrap_or_default();
+        Some((
+            Case {
+                arguments,
+                told,
+                regs,
+            },
             room,
-        })
+        ))
     }
 
     // Token k behind the arrow as a number.
-    pub fn number(&self, k: usize) -> u64 {
+    pub fn number(self, k: usize) -> u64 {
         read::number(read::token(self.told, k))
     }
 
     // Whether an answer is the refusal, the kind and the numbers behind the arrow: its value, and behind colons the two
     // numbers more, 0 where they don't stand.
-    pub fn agrees(&self, a: Answer) -> bool {
+    pub fn agrees(self, a: Answer) -> bool {
         let numbers = read::token(self.told, 2);
         u64::from(a.refusal) == self.number(0)
             && u64::from(a.kind) == self.number(1)
@@ -63,19 +65,32 @@ impl<'a> Case<'a> {
     }
 
     // The bytes that token k behind the arrow stands for.
-    pub fn bytes(&mut self, k: usize) -> Option<&[u8]> {
-        read::string(read::token(self.told, k), self.regs, self.room)
+    pub fn bytes<'b>(self, k: usize, room: &'b mut [u8]) -> Option<&'b [u8]> {
+        read::string(read::token(self.told, k), self.regs, room)
     }
 
-    // Whether bytes are those of token k behind the arrow, or, where it is "=", the argument that was handed in.
-    pub fn tells(&mut self, k: usize, bytes: &[u8], handed_in: usize) -> bool
-        requires { handed_in < 11 }
-    {
-        if let b"=" = read::token(self.told, k) {
-            return bytes == self.arguments[handed_in];
+    // Whether bytes are those of token k behind the arrow, or, where it is "=", those that were handed in.
+    pub fn tells(self, k: usize, room: &mut [u8], bytes: &[u8], handed_in: &[u8]) -> bool {
+        match read::token(self.told, k) {
+            b"=" => bytes == handed_in,
+            _ => self.bytes(k, room) == Some(bytes),
         }
-        self.bytes(k) == Some(bytes)
     }
+}
+
+// Whether a call passes on a line that has n arguments; None where the line cannot be read.
+pub fn passes<'a, Call: FnOnce(Case, &mut [u8]) -> bool>(
+    line: &'a [u8],
+    n: usize,
+    regs: &'a [u8],
+    room: &'a mut [u8],
+    call: Call,
+) -> Option<bool>
+    requires few { n < 12 }
+    requires is_always_callable { Call.IsAlwaysCallable call }
+{
+    let (case, room) = Case::read(line, n, regs, room)?;
+    Some(call(case, room))
 }
 
 // An argument that says yes or no: the byte 1, or 0.

@@ -71,12 +71,7 @@ fn register(regs: &[u8], d: u8) -> Option<&[u8]> {
 }
 
 // One piece of a byte string, put into a room from a place on; what stands behind it, and where its bytes end.
-fn piece<'a>(
-    text: &'a [u8],
-    regs: &[u8],
-    room: &mut [u8],
-    at: usize,
-) -> Option<(&'a [u8], usize)>
+fn piece<'a>(text: &'a [u8], regs: &[u8], room: &mut [u8], at: usize) -> Option<(&'a [u8], usize)>
     ensures { IfSome result (λ r. length r.0.now < length text.now) }
 {
     let (&first, rest) = text.split_first()?;

@@ -8,25 +8,28 @@ pub fn check_lexicon(case: Case) -> bool {
 }
 
 // new_store STORE -> REFUSAL KIND VALUE STORE
-pub fn new_store(mut case: Case, out: &mut [u8]) -> bool {
-    let n = caseline::load(out, case.arguments[0]);
+pub fn new_store(case: Case, room: &mut [u8], out: &mut [u8]) -> bool {
+    let [before, ..] = case.arguments;
+    let n = caseline::load(out, before);
     let store = &mut out[..n];
     let a = new_store::new_store(store);
-    case.agrees(answers::told_done(a)) && case.tells(3, store, 0)
+    case.agrees(answers::told_done(a)) && case.tells(3, room, store, before)
 }
 
 // add_entry PHONES STORE WORD TAG CELLS EXACT -> REFUSAL KIND VALUE STORE
-pub fn add_entry(mut case: Case, out: &mut [u8]) -> Option<bool> {
+pub fn add_entry(case: Case, room: &mut [u8], out: &mut [u8]) -> bool {
     let [phones, before, word, tag, cells, exact, ..] = case.arguments;
-    let exact = caseline::yes_or_no(exact)?;
+    let Some(exact) = caseline::yes_or_no(exact) else {
+        return false;
+    };
     let n = caseline::load(out, before);
     let store = &mut out[..n];
     let a = add_entry::add_entry(phones, store, word, tag, cells, exact);
-    Some(case.agrees(answers::told_done(a)) && case.tells(3, store, 1))
+    case.agrees(answers::told_done(a)) && case.tells(3, room, store, before)
 }
 
 // add_entries PHONES STORE SPARE TEXT -> REFUSAL KIND VALUE STORE SPARE
-pub fn add_entries(mut case: Case, out: &mut [u8]) -> bool {
+pub fn add_entries(case: Case, room: &mut [u8], out: &mut [u8]) -> bool {
     let [phones, store_before, spare_before, text, ..] = case.arguments;
     let n = caseline::load(out, store_before);
     let store = &mut out[..n];
@@ -34,32 +37,34 @@ pub fn add_entries(mut case: Case, out: &mut [u8]) -> bool {
     let n = caseline::load(&mut spare, spare_before);
     let spare = &mut spare[..n];
     let a = add_entries::add_entries(phones, store, spare, text);
-    case.agrees(answers::told_lines(a)) && case.tells(3, store, 1) && case.tells(4, spare, 2)
+    case.agrees(answers::told_lines(a))
+        && case.tells(3, room, store, store_before)
+        && case.tells(4, room, spare, spare_before)
 }
 
 // preview_entries PHONES STORE SPARE TEXT -> REFUSAL KIND VALUE SPARE
-pub fn preview_entries(mut case: Case, out: &mut [u8]) -> bool {
+pub fn preview_entries(case: Case, room: &mut [u8], out: &mut [u8]) -> bool {
     let [phones, store, before, text, ..] = case.arguments;
     let n = caseline::load(out, before);
     let spare = &mut out[..n];
     let a = preview_entries::preview_entries(phones, store, spare, text);
-    case.agrees(answers::told_previewed(a)) && case.tells(3, spare, 2)
+    case.agrees(answers::told_previewed(a)) && case.tells(3, room, spare, before)
 }
 
 // accept_entries STORE SPARE -> REFUSAL KIND VALUE STORE
-pub fn accept_entries(mut case: Case, out: &mut [u8]) -> bool {
+pub fn accept_entries(case: Case, room: &mut [u8], out: &mut [u8]) -> bool {
     let [before, spare, ..] = case.arguments;
     let n = caseline::load(out, before);
     let store = &mut out[..n];
     let a = accept_entries::accept_entries(store, spare);
-    case.agrees(answers::told_done(a)) && case.tells(3, store, 0)
+    case.agrees(answers::told_done(a)) && case.tells(3, room, store, before)
 }
 
 // lookup PHONES INDEX DATA STORE WORD TAG OUT -> REFUSAL KIND VALUE OUT
-pub fn lookup(mut case: Case, out: &mut [u8]) -> bool {
+pub fn lookup(case: Case, room: &mut [u8], out: &mut [u8]) -> bool {
     let [phones, index, data, store, word, tag, before, ..] = case.arguments;
     let n = caseline::load(out, before);
     let out = &mut out[..n];
     let a = lookup::lookup(phones, index, data, store, word, tag, out);
-    case.agrees(answers::told_looked(a)) && case.tells(3, out, 6)
+    case.agrees(answers::told_looked(a)) && case.tells(3, room, out, before)
 }

@@ -12,10 +12,9 @@ pub struct Reader {
 
 impl Reader {
     pub fn of(arguments: &Arguments) -> Option<Reader> {
-        Some(Reader {
-            version: caseline::four_bytes(arguments[1])?,
-            show: values::real_of(caseline::four_bytes(arguments[2])?),
-        })
+        let version = caseline::four_bytes(arguments[1])?;
+        let show = values::real_of(caseline::four_bytes(arguments[2])?);
+        Some(Reader { version, show })
     }
 
     pub fn read(self, settings: &[u8]) -> Settings {
@@ -24,21 +23,22 @@ impl Reader {
 }
 
 // Whether these bits are the four bytes of token k behind the arrow.
-fn tells(case: &mut Case, k: usize, bits: u32) -> bool {
-    case.bytes(k).and_then(caseline::four_bytes) == Some(bits)
+fn tells(case: Case, room: &mut [u8], k: usize, bits: u32) -> bool {
+    case.bytes(k, room).and_then(caseline::four_bytes) == Some(bits)
 }
 
 // read_settings SETTINGS VERSION SHOW -> REFUSAL COUNT PITCH STRETCH LEVEL RACK
-pub fn read_settings(mut case: Case) -> Option<bool> {
-    let a = Reader::of(&case.arguments)?.read(case.arguments[0]);
-    Some(
-        u64::from(a.refusal) == case.number(0)
-            && u64::from(a.count) == case.number(1)
-            && tells(&mut case, 2, values::bits_of_whole(a.pitch))
-            && tells(&mut case, 3, values::bits_of_real(a.stretch))
-            && tells(&mut case, 4, values::bits_of_whole(a.level))
-            && tells(&mut case, 5, values::bits_of_real(a.rack)),
-    )
+pub fn read_settings(case: Case, room: &mut [u8]) -> bool {
+    let Some(reader) = Reader::of(&case.arguments) else {
+        return false;
+    };
+    let a = reader.read(case.arguments[0]);
+    u64::from(a.refusal) == case.number(0)
+        && u64::from(a.count) == case.number(1)
+        && tells(case, room, 2, values::bits_of_whole(a.pitch))
+        && tells(case, room, 3, values::bits_of_real(a.stretch))
+        && tells(case, room, 4, values::bits_of_whole(a.level))
+        && tells(case, room, 5, values::bits_of_real(a.rack))
 }
 
 // What a line hands to write_setting beside the store.
@@ -51,11 +51,13 @@ pub struct Writer<'a> {
 
 impl<'a> Writer<'a> {
     pub fn of(arguments: &Arguments<'a>) -> Option<Writer<'a>> {
+        let version = caseline::four_bytes(arguments[1])?;
         let kind = caseline::four_bytes(arguments[3])?;
+        let value = values::setting_of(kind, caseline::four_bytes(arguments[4])?);
         Some(Writer {
-            version: caseline::four_bytes(arguments[1])?,
+            version,
             name: arguments[2],
-            value: values::setting_of(kind, caseline::four_bytes(arguments[4])?),
+            value,
         })
     }
 
@@ -65,10 +67,13 @@ impl<'a> Writer<'a> {
 }
 
 // write_setting SETTINGS VERSION NAME KIND VALUE -> REFUSAL KIND VALUE SETTINGS
-pub fn write_setting(mut case: Case, out: &mut [u8]) -> Option<bool> {
-    let writer = Writer::of(&case.arguments)?;
-    let n = caseline::load(out, case.arguments[0]);
+pub fn write_setting(case: Case, room: &mut [u8], out: &mut [u8]) -> bool {
+    let Some(writer) = Writer::of(&case.arguments) else {
+        return false;
+    };
+    let before = case.arguments[0];
+    let n = caseline::load(out, before);
     let settings = &mut out[..n];
     let a = writer.write(settings);
-    Some(case.agrees(answers::told_done(a)) && case.tells(3, settings, 0))
+    case.agrees(answers::told_done(a)) && case.tells(3, room, settings, before)
 }

@@ -1,5 +1,4 @@
 // Lines that stand for many calls over settings: each byte of a store with each other value in turn.
-ghost use Rattle.std.specs.Prelude.{◌<◌, length};
 
 use crate::calls::{Reader, Writer};
 use answers::Settings;
@@ -15,55 +14,74 @@ fn are_same(a: Settings, b: Settings) -> bool {
         && values::bits_of_real(a.rack) == values::bits_of_real(b.rack)
 }
 
-// Whether write_setting on a store, with b put at place k, is refused or leaves other settings than `after`, but for b
-// where it still stands at place k.
-fn has_effect(writer: Writer, store: &mut [u8], k: usize, b: u8, after: &[u8]) -> bool
-    requires { k < length store.old }
-{
+// Whether write_setting on a store, in which b was put at place k, is refused or leaves other settings than `after`, but
+// for b where it still stands at place k.
+fn is_other(writer: Writer, store: &mut [u8], k: usize, b: u8, after: &[u8]) -> bool {
     if writer.write(store).is_err() {
         return true;
     }
-    if store[k] == b {
+    if store.get(k) == Some(&b) {
         store[k] = records::byte_at(after, k);
     }
-    store != after
+    &*store != after
 }
 
-// A line with a count for each byte of its store: how many values at that place have an effect.
-fn damage(mut case: Case, out: &mut [u8], has_effect: impl Fn(&mut [u8], usize, u8) -> bool) -> Option<bool> {
+// A line that tells a count for each byte of its store: how many values there have an effect.
+fn damage<Effect: Fn(&mut [u8], usize, u8) -> bool>(
+    case: Case,
+    room: &mut [u8],
+    out: &mut [u8],
+    has_effect: Effect,
+) -> bool
+    requires { Effect.IsAlwaysCallable has_effect }
+{
     let before = case.arguments[0];
-    let wanted = case.bytes(0)?;
     let n = caseline::load(out, before);
-    if wanted.len() != n {
-        return None;
+    let store = &mut out[..n];
+    let Some(wanted) = case.bytes(0, room) else {
+        return false;
+    };
+    if wanted.len() != store.len() {
+        return false;
     }
     for (k, &count) in wanted.iter().enumerate() {
-        let mut effects = 0;
+        let mut effects = 0u32;
         for b in 0..=255 {
-            let store = &mut out[..n];
             caseline::load(store, before);
             store[k] = b;
-            if has_effect(store, k, b) {
-                effects += 1;
-            }
+            effects += u32::from(has_effect(store, k, b));
         }
         if effects != u32::from(count) {
-            return Some(false);
+            return false;
         }
     }
-    Some(true)
+    true
 }
 
 // damage_read_settings SETTINGS VERSION SHOW -> COUNTS
-pub fn damage_read_settings(case: Case, out: &mut [u8]) -> Option<bool> {
-    let reader = Reader::of(&case.arguments)?;
+pub fn damage_read_settings(case: Case, room: &mut [u8], out: &mut [u8]) -> bool {
+    let Some(reader) = Reader::of(&case.arguments) else {
+        return false;
+    };
     let plain = reader.read(case.arguments[0]);
-    damage(case, out, |store, _, _| !are_same(reader.read(store), plain))
+    damage(
+        case,
+        room,
+        out,
+        |store, _, _| !are_same(reader.read(store), plain),
+    )
 }
 
 // damage_write_setting SETTINGS VERSION NAME KIND VALUE SETTINGS -> COUNTS
-pub fn damage_write_setting(case: Case, out: &mut [u8]) -> Option<bool> {
-    let writer = Writer::of(&case.arguments)?;
+pub fn damage_write_setting(case: Case, room: &mut [u8], out: &mut [u8]) -> bool {
+    let Some(writer) = Writer::of(&case.arguments) else {
+        return false;
+    };
     let after = case.arguments[5];
-    damage(case, out, |store, k, b| has_effect(writer, store, k, b, after))
+    damage(
+        case,
+        room,
+        out,
+        |store, k, b| is_other(writer, store, k, b, after),
+    )
 }

@@ -5,15 +5,35 @@
 mod calls;
 mod damage;
 
-use caseline::Case;
+use calls::{read_settings, write_setting};
+use caseline::passes;
+use damage::{damage_read_settings, damage_write_setting};
 
-// A line by the name of its call: whether it passed; None where the call is none of these or the line cannot be read.
+// Whether a line passes, by the name of its call; None where that is none of these or the line cannot be read.
 pub fn run(line: &[u8], regs: &[u8], room: &mut [u8], out: &mut [u8]) -> Option<bool> {
     match caseline::token(line, 0) {
-        b"read_settings" => calls::read_settings(Case::read(line, 3, regs, room)?),
-        b"write_setting" => calls::write_setting(Case::read(line, 5, regs, room)?, out),
-        b"damage_read_settings" => damage::damage_read_settings(Case::read(line, 3, regs, room)?, out),
-        b"damage_write_setting" => damage::damage_write_setting(Case::read(line, 6, regs, room)?, out),
+        b"read_settings" => passes(line, 3, regs, room, |case, room| read_settings(case, room)),
+        b"write_setting" => passes(
+            line,
+            5,
+            regs,
+            room,
+            |case, room| write_setting(case, room, out),
+        ),
+        b"damage_read_settings" => passes(
+            line,
+            3,
+            regs,
+            room,
+            |case, room| damage_read_settings(case, room, out),
+        ),
+        b"damage_write_setting" => passes(
+            line,
+            6,
+            regs,
+            room,
+            |case, room| damage_write_setting(case, room, out),
+        ),
         _ => None,
     }
 }

@@ -5,17 +5,37 @@
 mod many_sheets;
 mod sheets;
 
-use caseline::Case;
+use caseline::passes;
+use many_sheets::{damage_phone_string, damage_say_word, fill_sheet};
+use sheets::{new_sheet, phone_string, say_word};
 
-// A line by the name of its call: whether it passed; None where the call is none of these or the line cannot be read.
+// Whether a line passes, by the name of its call; None where that is none of these or the line cannot be read.
 pub fn run(line: &[u8], regs: &[u8], room: &mut [u8], out: &mut [u8]) -> Option<bool> {
     match caseline::token(line, 0) {
-        b"new_sheet" => sheets::new_sheet(Case::read(line, 2, regs, room)?, out),
-        b"phone_string" => Some(sheets::phone_string(Case::read(line, 2, regs, room)?, out)),
-        b"say_word" => Some(sheets::say_word(Case::read(line, 10, regs, room)?, out)),
-        b"damage_phone_string" => many_sheets::damage_phone_string(Case::read(line, 2, regs, room)?, out),
-        b"damage_say_word" => many_sheets::damage_say_word(Case::read(line, 11, regs, room)?, out),
-        b"fill_sheet" => Some(many_sheets::fill_sheet(Case::read(line, 10, regs, room)?, out)),
+        b"new_sheet" => passes(line, 2, regs, room, |case, room| new_sheet(case, room, out)),
+        b"phone_string" => passes(
+            line,
+            2,
+            regs,
+            room,
+            |case, room| phone_string(case, room, out),
+        ),
+        b"say_word" => passes(line, 10, regs, room, |case, room| say_word(case, room, out)),
+        b"damage_phone_string" => passes(
+            line,
+            2,
+            regs,
+            room,
+            |case, room| damage_phone_string(case, room, out),
+        ),
+        b"damage_say_word" => passes(
+            line,
+            11,
+            regs,
+            room,
+            |case, room| damage_say_word(case, room, out),
+        ),
+        b"fill_sheet" => passes(line, 10, regs, room, |case, _| fill_sheet(case, out)),
         _ => None,
     }
 }

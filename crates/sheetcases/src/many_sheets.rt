@@ -17,21 +17,23 @@ fn string_refusal(sheet: &mut [u8], k: usize, step: u8) -> u32
 
 // damage_phone_string SHEET STEP -> REFUSALS
 // One refusal for each byte of the sheet.
-pub fn damage_phone_string(mut case: Case, out: &mut [u8]) -> Option<bool> {
+pub fn damage_phone_string(case: Case, room: &mut [u8], out: &mut [u8]) -> bool {
     let [before, step, ..] = case.arguments;
     let n = caseline::load(out, before);
     let sheet = &mut out[..n];
     let step = records::byte_at(step, 0);
-    let wanted = case.bytes(0)?;
+    let Some(wanted) = case.bytes(0, room) else {
+        return false;
+    };
     if wanted.len() != sheet.len() {
-        return None;
+        return false;
     }
     for (k, &refusal) in wanted.iter().enumerate() {
         if string_refusal(sheet, k, step) != u32::from(refusal) {
-            return Some(false);
+            return false;
         }
     }
-    Some(true)
+    true
 }
 
 // The refusal of say word on a line's sheet with a step added to byte k, 0 where it is accepted; 255 where it is
@@ -45,29 +47,32 @@ fn word_refusal(arguments: &Arguments, sheet: &mut [u8], k: usize, step: u8) -> 
         return 0;
     };
     sheet[k] = sheet[k].wrapping_sub(step);
-    if sheet == arguments[7] {
-        return refusal as u32;
+    if &*sheet == arguments[7] {
+        refusal as u32
+    } else {
+        255
     }
-    255
 }
 
 // damage_say_word, the arguments of say_word, STEP -> REFUSALS
 // One refusal for each byte of the sheet.
-pub fn damage_say_word(mut case: Case, out: &mut [u8]) -> Option<bool> {
+pub fn damage_say_word(case: Case, room: &mut [u8], out: &mut [u8]) -> bool {
     let arguments = case.arguments;
     let n = caseline::load(out, arguments[7]);
     let sheet = &mut out[..n];
     let step = records::byte_at(arguments[10], 0);
-    let wanted = case.bytes(0)?;
+    let Some(wanted) = case.bytes(0, room) else {
+        return false;
+    };
     if wanted.len() != sheet.len() {
-        return None;
+        return false;
     }
     for (k, &refusal) in wanted.iter().enumerate() {
         if word_refusal(&arguments, sheet, k, step) != u32::from(refusal) {
-            return Some(false);
+            return false;
         }
     }
-    Some(true)
+    true
 }
 
 // A line's word said again and again, up to the first time that is refused: how often, and by which refusal that

@@ -5,21 +5,21 @@
 use caseline::Case;
 
 // predict PHONES INDEX MODEL WORD OUT -> REFUSAL KIND VALUE OUT
-fn predict(mut case: Case, out: &mut [u8]) -> bool {
+fn predict(case: Case, room: &mut [u8], out: &mut [u8]) -> bool {
     let [phones, index, model, word, before, ..] = case.arguments;
     let n = caseline::load(out, before);
     let out = &mut out[..n];
     let a = lts::predict(phones, index, model, word, out);
-    case.agrees(answers::told_predicted(a)) && case.tells(3, out, 4)
+    case.agrees(answers::told_predicted(a)) && case.tells(3, room, out, before)
 }
 
 // syllabify PHONES MARKS -> REFUSAL KIND VALUE MARKS
-fn syllabify(mut case: Case, out: &mut [u8]) -> bool {
+fn syllabify(case: Case, room: &mut [u8], out: &mut [u8]) -> bool {
     let [phones, before, ..] = case.arguments;
     let n = caseline::load(out, before);
     let marks = &mut out[..n];
     let a = syllabify::syllabify(phones, marks);
-    case.agrees(answers::told_count(a)) && case.tells(3, marks, 1)
+    case.agrees(answers::told_count(a)) && case.tells(3, room, marks, before)
 }
 
 // is_sayable PREFIX SUFFIX WORD -> REFUSAL KIND VALUE
@@ -40,24 +40,31 @@ fn split_stress(case: Case) -> bool {
 }
 
 // fold BYTES -> BYTES
-fn fold(mut case: Case, out: &mut [u8]) -> bool {
-    let n = caseline::load(out, case.arguments[0]);
+fn fold(case: Case, room: &mut [u8], out: &mut [u8]) -> bool {
+    let [before, ..] = case.arguments;
+    let n = caseline::load(out, before);
     let bytes = &mut out[..n];
     for b in bytes.iter_mut() {
         *b = texts::fold(*b);
     }
-    case.tells(0, bytes, 0)
+    case.tells(0, room, bytes, before)
 }
 
 // A line by the name of its call: whether it passed; None where the call is none of these or the line cannot be read.
 pub fn run(line: &[u8], regs: &[u8], room: &mut [u8], out: &mut [u8]) -> Option<bool> {
-    Some(match caseline::token(line, 0) {
-        b"predict" => predict(Case::read(line, 5, regs, room)?, out),
-        b"syllabify" => syllabify(Case::read(line, 2, regs, room)?, out),
-        b"is_sayable" => is_sayable(Case::read(line, 3, regs, room)?),
-        b"is_vowel" => is_vowel(Case::read(line, 1, regs, room)?),
-        b"split_stress" => split_stress(Case::read(line, 1, regs, room)?),
-        b"fold" => fold(Case::read(line, 1, regs, room)?, out),
-        _ => return None,
-    })
+    match caseline::token(line, 0) {
+        b"predict" => caseline::passes(line, 5, regs, room, |case, room| predict(case, room, out)),
+        b"syllabify" => caseline::passes(
+            line,
+            2,
+            regs,
+            room,
+            |case, room| syllabify(case, room, out),
+        ),
+        b"is_sayable" => caseline::passes(line, 3, regs, room, |case, _| is_sayable(case)),
+        b"is_vowel" => caseline::passes(line, 1, regs, room, |case, _| is_vowel(case)),
+        b"split_stress" => caseline::passes(line, 1, regs, room, |case, _| split_stress(case)),
+        b"fold" => caseline::passes(line, 1, regs, room, |case, room| fold(case, room, out)),
+        _ => None,
+    }
 }
