@@ -2,7 +2,7 @@
 
 #![tactic(auto)]
 
-ghost use Rattle.std.specs.Prelude.{◌≡◌, false, ◌++◌, map, ◌*◌, ◌≤◌, ◌<◌, length, get_or, drop};
+ghost use Rattle.std.specs.Prelude.{◌≡◌, false, MatchOption, ◌++◌, map, ◌*◌, ◌≤◌, ◌<◌, length, get_or, drop};
 ghost use Rattle.texts.specs.Lists.{place};
 ghost use Rattle.cells.specs.Cells.{text, cells_of};
 ghost use Rattle.addenda.specs.Addenda.{addenda, no_addendum, encoded};
@@ -58,10 +58,10 @@ const ADDENDA: [[u8; 41]; 42] = [
 ];
 
 // The table.
-fn rows() -> [[u8; 41]; 42]
-    ensures { result ≡ map encoded addenda }
+fn rows() -> &'static [[u8; 41]; 42]
+    ensures { result.now ≡ map encoded addenda }
 {
-    ADDENDA
+    &ADDENDA
 }
 
 // Row n of the table.
@@ -69,76 +69,56 @@ pub fn addenda_row(n: usize) -> [u8; 41]
     requires { n < 42 }
     ensures { result ≡ encoded (get_or addenda n no_addendum) }
 {
-    let table = rows();
-    table[n]
+    rows()[n]
 }
 
 // The text at k of a row, behind its length byte.
+#[tactic(auto, unfolding(cells::specs::Cells::text))]
 fn text_at(row: &[u8], k: usize) -> &[u8]
     ensures { result.now ≡ text (drop k row.now) }
 {
-    let cell = records::tail(row, k);
-    let n = texts::wide(records::byte_at(cell, 0));
-    records::head(records::tail(cell, 1), n)
+    texts::counted(records::tail(row, k))
 }
 
 // Whether a row has this word and a tag that agrees.
-fn is_meant(row: &[u8], word: &[u8], tag: u8) -> bool
+#[tactic(auto, unfolding(crate::specs::Laws::Rows::is_meant_by))]
+fn is_meant(row: &[u8; 41], word: &[u8], tag: u8) -> bool
     ensures { result ≡ is_meant_by word.now tag row.now }
 {
-    let same = texts::same(text_at(row, 1), word);
-    texts::both(same, texts::agree(true, records::byte_at(row, 0), tag))
+    texts::same(text_at(row, 1), word) && texts::agree(true, row[0], tag)
 }
 
 // Whether a row may be this byte: none is a letter or a digit.
+#[tactic(auto, using(crate::specs::Laws::Starts::sign_out))]
 fn may_be_sign(b: u8) -> bool
     ensures { result ≡ false → is_start 1 b ≡ false }
 {
-    match b {
-        b'0'..=b'9' | b'A'..=b'Z' | b'a'..=b'z' => false,
-        _ => true,
-    }
+    !b.is_ascii_alphanumeric()
 }
 
 // Whether a row's word may have this length and first byte.
+#[tactic(auto, using(crate::specs::Laws::Starts::start_listed), unfolding(texts::specs::Lists::some))]
 fn may_be_row(n: usize, first: u8) -> bool
     ensures { result ≡ false → is_start n first ≡ false }
 {
     match n {
         1 => may_be_sign(first),
-        2 => match first {
-            b'\'' | b'_' | b'i' | b't' => true,
-            _ => false,
-        },
+        2 => matches!(first, b'\'' | b'_' | b'i' | b't'),
         4 => first == b's',
-        5 => match first {
-            b'e' | b'y' => true,
-            _ => false,
-        },
-        6 => match first {
-            b'd' | b'h' => true,
-            _ => false,
-        },
+        5 => matches!(first, b'e' | b'y'),
+        6 => matches!(first, b'd' | b'h'),
         _ => false,
     }
 }
 
-// The first row with this word, unfolded, and a tag that agrees; 42 where there is none.
-pub fn find(word: &[u8], tag: u8) -> usize
-    ensures { result ≡ place (is_meant word.now tag) addenda }
+// The first row with this word, unfolded, and a tag that agrees.
+pub fn find(word: &[u8], tag: u8) -> Option<usize>
+    ensures { MatchOption result (place (is_meant word.now tag) addenda ≡ 42) (λ n. (n ≡ place (is_meant word.now tag) addenda) × (n < 42)) }
 {
     if !may_be_row(word.len(), records::byte_at(word, 0)) {
-        return 42;
+        return None;
     }
-    let table = rows();
-    let mut n = 0;
-    while n < 42 {
-        if is_meant(&table[n], word, tag) {
-            return n;
-        }
-        n += 1;
-    }
-    n
+    rows().iter().position(|row| is_meant(row, word, tag))
 }
 
 // How many phones row n has.
@@ -146,8 +126,7 @@ pub fn count(n: usize) -> usize
     requires { n < 42 }
     ensures { (result ≡ length (get_or addenda n no_addendum).phones) × (result ≤ 8) }
 {
-    let row = addenda_row(n);
-    texts::wide(row[8])
+    usize::from(addenda_row(n)[8])
 }
 
 // The phones of row n as cells at the front of out.
@@ -156,10 +135,7 @@ pub fn put_phones(out: &mut [u8], n: usize)
     ensures { out.new ≡ cells_of (get_or addenda n no_addendum).phones ++ drop (16 * length (get_or addenda n no_addendum).phones) out.old }
 {
     let row = addenda_row(n);
-    let count = texts::wide(row[8]);
-    let mut i = 0;
-    while i < count {
+    for i in 0..count(n) {
         cells::put_cell(out, i, text_at(&row, 9 + 4 * i));
-        i += 1;
     }
 }

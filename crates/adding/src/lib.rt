@@ -10,6 +10,8 @@ ghost use Rattle.store_spec.specs.Store.{is_sound};
 ghost use Rattle.store_spec.specs.Adding.{entry_for, is_full, kept};
 ghost use Rattle.lexicon_spec.specs.Adding.{added_tag, may_add, may_add_cell, may_add_all, stored_word};
 
+use slots::NewEntry;
+
 // The tag that an entry gets.
 #[tactic(auto, unfolding(lexicon_spec::specs::Adding::added_tag))]
 pub fn added_tag(tag: &[u8]) -> u8
@@ -56,6 +58,7 @@ pub fn are_texts(word: &[u8], tag: &[u8], phones: &[u8]) -> bool
 }
 
 // Adds a word, folded, with its tag and phones to a sound store as an ordinary entry; whether there was a slot.
+#[tactic(auto, unfolding(store_spec::specs::Adding::entry_for))]
 pub fn add_folded(store: &mut [u8], tag: u8, word: &[u8], phones: &[u8]) -> bool
     requires { (is_sound store.old ≡ true) × (length word.now ≤ 47) × (length phones.now / 16 ≤ 24) }
     ensures value { result ≡ not (is_full store.old (entry_for tag (map folded word.now) phones.now false)) }
@@ -63,18 +66,30 @@ pub fn add_folded(store: &mut [u8], tag: u8, word: &[u8], phones: &[u8]) -> bool
 {
     let mut room = [0u8; 47];
     slots::put_folded(&mut room, 0, word);
-    store::add(store, tag, &room[..word.len()], phones, false)
+    let entry = NewEntry {
+        tag,
+        word: &room[..word.len()],
+        phones,
+        exact: false,
+    };
+    store::add(store, &entry)
 }
 
 // Adds a word, exact or ordinary, with its tag and phones to a sound store; whether there was a slot.
-#[tactic(auto, unfolding(lexicon_spec::specs::Adding::stored_word))]
+#[tactic(auto, unfolding(lexicon_spec::specs::Adding::stored_word, store_spec::specs::Adding::entry_for))]
 pub fn add(store: &mut [u8], tag: u8, word: &[u8], phones: &[u8], exact: bool) -> bool
     requires { (is_sound store.old ≡ true) × (length word.now ≤ 47) × (length phones.now / 16 ≤ 24) }
     ensures value { result ≡ not (is_full store.old (entry_for tag (stored_word exact word.now) phones.now exact)) }
     ensures store_after { store.new ≡ kept store.old (entry_for tag (stored_word exact word.now) phones.now exact) }
 {
     if exact {
-        store::add(store, tag, word, phones, true)
+        let entry = NewEntry {
+            tag,
+            word,
+            phones,
+            exact,
+        };
+        store::add(store, &entry)
     } else {
         add_folded(store, tag, word, phones)
     }

@@ -9,79 +9,78 @@ ghost use Rattle.store_spec.specs.Store.{is_sound, count as count_of, largest as
 ghost use Rattle.answers.specs.Told.{told_lines, told_previewed};
 ghost use Rattle.addtext_spec.specs.Filling.{text_filled, spare_filled, store_filled, told_filled};
 
-use addtext_spec::Outcome;
-use answers::{Lines, Previewed};
+use answers::{AtLine, Previewed};
+use lines::Lines;
 
-// Adds the lines of a text to a sound store, up to the first fault.
-fn add_lines(table: &[u8], store: &mut [u8], text: &[u8]) -> Lines
+// Adds the lines of a text to a sound store, up to the first fault; how many added an entry.
+fn add_lines(table: &[u8], store: &mut [u8], text: &[u8]) -> Result<usize, AtLine>
     requires { (is_phone_table table.now ≡ true) × (is_sound store.old ≡ true) × (ascii text.now ≡ true) }
     ensures result_value { told_lines result ≡ (text_filled table.now store.old text.now).answer }
     ensures store_after { store.new ≡ (text_filled table.now store.old text.now).store }
 {
-    let mut at = 0;
-    let mut n = 1;
     let mut taken = 0;
-    while at < text.len() {
-        let rest = records::tail(text, at);
-        match entryline::take_line(table, store, lines::first_line(rest)) {
-            Outcome::Skipped => {}
-            Outcome::Taken => {
-                taken += 1;
-            }
-            Outcome::Refused(r) => {
-                return Lines::Refused(r, n);
+    for (i, line) in Lines::of(text).enumerate() {
+        match entryline::take_line(table, store, line) {
+            Ok(added) => taken += usize::from(added),
+            Err(refusal) => {
+                return Err(AtLine {
+                    refusal,
+                    line: i + 1,
+                });
             }
         }
-        n += 1;
-        at = lines::line_end(text, at);
     }
-    Lines::Taken(taken)
+    Ok(taken)
 }
 
 // Fills the spare: the bytes of a sound store, and the lines of a text added to them. Where a line stops it, it gets the largest count.
-fn fill_spare(table: &[u8], store: &[u8], spare: &mut [u8], text: &[u8]) -> Lines
+fn fill_spare(table: &[u8], store: &[u8], spare: &mut [u8], text: &[u8]) -> Result<usize, AtLine>
     requires { (is_phone_table table.now ≡ true) × (is_sound store.now ≡ true) × (length spare.old ≡ length store.now) × (ascii text.now ≡ true) }
     ensures result_value { told_lines result ≡ (text_filled table.now store.now text.now).answer }
     ensures spare_after { spare.new ≡ spare_filled (text_filled table.now store.now text.now) }
 {
-    records::copy_in(spare, 0, store);
-    match add_lines(table, spare, text) {
-        Lines::Refused(r, n) => {
-            counting::set_count(spare, counting::largest());
-            Lines::Refused(r, n)
-        }
-        Lines::Taken(n) => Lines::Taken(n),
+    spare.copy_from_slice(store);
+    let filled = add_lines(table, spare, text);
+    if filled.is_err() {
+        counting::set_count(spare, counting::largest());
     }
+    filled
 }
 
 // Fills the spare and tells what its lines did.
-pub fn fill_and_tell(table: &[u8], store: &[u8], spare: &mut [u8], text: &[u8]) -> Previewed
+pub fn fill_and_tell(
+    table: &[u8],
+    store: &[u8],
+    spare: &mut [u8],
+    text: &[u8],
+) -> Result<Previewed, AtLine>
     requires { (is_phone_table table.now ≡ true) × (is_sound store.now ≡ true) × (length spare.old ≡ length store.now) × (ascii text.now ≡ true) }
     ensures result_value { told_previewed result ≡ told_filled store.now text.now (text_filled table.now store.now text.now) }
     ensures spare_after { spare.new ≡ spare_filled (text_filled table.now store.now text.now) }
 {
-    match fill_spare(table, store, spare, text) {
-        Lines::Refused(r, n) => Previewed::Refused(r, n),
-        Lines::Taken(n) => {
-            let newly = store::used(spare) - store::used(store);
-            let replaced = n - newly;
-            Previewed::Taken(n, newly, replaced)
-        }
-    }
+    let taken = fill_spare(table, store, spare, text)?;
+    let newly = store::used(spare) - store::used(store);
+    let replaced = taken - newly;
+    Ok(Previewed {
+        taken,
+        newly,
+        replaced,
+    })
 }
 
 // Fills the spare and, if no line stopped it, takes it.
-pub fn fill_and_take(table: &[u8], store: &mut [u8], spare: &mut [u8], text: &[u8]) -> Lines
+pub fn fill_and_take(
+    table: &[u8],
+    store: &mut [u8],
+    spare: &mut [u8],
+    text: &[u8],
+) -> Result<usize, AtLine>
     requires { (is_phone_table table.now ≡ true) × (is_sound store.old ≡ true) × (length spare.old ≡ length store.old) × (count_of store.old ≢ largest_count) × (ascii text.now ≡ true) }
     ensures result_value { told_lines result ≡ (text_filled table.now store.old text.now).answer }
     ensures store_after { store.new ≡ store_filled store.old (text_filled table.now store.old text.now) }
     ensures spare_after { spare.new ≡ spare_filled (text_filled table.now store.old text.now) }
 {
-    match fill_spare(table, store, spare, text) {
-        Lines::Refused(r, n) => Lines::Refused(r, n),
-        Lines::Taken(n) => {
-            counting::take_spare(store, spare);
-            Lines::Taken(n)
-        }
-    }
+    let taken = fill_spare(table, store, spare, text)?;
+    counting::take_spare(store, spare);
+    Ok(taken)
 }

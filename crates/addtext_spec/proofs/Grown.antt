@@ -1,7 +1,7 @@
 -- Theorems about `specs/Grown.antt`: A line of a text below 128 that is taken adds an entry that fits, so the store stays sound; lines that are all taken add their
 -- entries in turn and leave the count, and a stop leaves the largest.
 -- Assumes nothing.
-use Rattle.std.specs.Prelude.{ℕ, ◌+◌, ◌≡◌, true, ◌&&◌, leb, ltb, take, drop}
+use Rattle.std.specs.Prelude.{ℕ, ◌+◌, ◌≡◌, Bool, true, false, Result, Ok, Err, ◌&&◌, leb, ltb, take, drop}
 use Rattle.std.proofs.Common.{arith, sym, ap, ◌∙◌, ltb-false}
 use Rattle.std.proofs.Math.Path.{refl}
 use mathlib.Core.List.{List, [], ◌∷◌, ◌++◌}
@@ -31,8 +31,6 @@ use Rattle.answers.specs.declared.Refusal.TheVariants.{Text, UnknownPhone, Phone
 use Rattle.answers.specs.declared.Answer.{Answer}
 use Rattle.answers.specs.Told.{refusal_number, refused, written}
 use Rattle.answers.specs.Laws.Numbers.{not_zero, refused_never}
-use Rattle.addtext_spec.specs.declared.Outcome.TheVariants.{Skipped, Taken, Refused}
-use Rattle.addtext_spec.specs.declared.Outcome.{Outcome}
 use Rattle.addtext_spec.specs.Grown.{Low, Tested, Grown, past, Whole, Stopped}
 
 -- where the answer is a refusal, what was lent stays
@@ -54,8 +52,8 @@ unfolding read_line
 low_line l h = low_content (content l) (ascii_content l h)
 
 -- an entry line is taken, or it is refused
-pub judged_as : {C : Type 0} (table store word tag : List ℕ) (phones : List (List ℕ)) → (judged table store word tag phones ≡ Taken → Tested table store word tag phones → C)
-    → ((r : Refusal) → judged table store word tag phones ≡ Refused r → C) → C
+pub judged_as : {C : Type 0} (table store word tag : List ℕ) (phones : List (List ℕ)) → (judged table store word tag phones ≡ Ok true → Tested table store word tag phones → C)
+    → ((r : Refusal) → judged table store word tag phones ≡ Err r → C) → C
 unfolding judged
 judged_as table store word tag phones ok not-ok =
     cases (leb (length word) 47 && leb (length tag) 47) (λ t₃. cases (every (may_add table) phones) (λ t₅. cases (ltb 24 (length phones))
@@ -140,11 +138,11 @@ filled_whole table store n k (l ∷ ls) t s a =
     let d = behind_line table store (read_line l) in
     go d w (λ m. filled_whole table d (n + 1) m ls t w.sound b.1) (outcome table store (read_line l))
   where
-    go : (d : List ℕ) → Whole store d → ((m : ℕ) → Whole d (filled table d (n + 1) m ls).store) → (o : Outcome)
+    go : (d : List ℕ) → Whole store d → ((m : ℕ) → Whole d (filled table d (n + 1) m ls).store) → (o : Result Bool Refusal)
         → Whole store (onward n k d (λ (m : ℕ). filled table d (n + 1) m ls) o).store
-    go d w ih Skipped = record { sound = (ih k).sound; length = (ih k).length ∙ w.length }
-    go d w ih Taken = record { sound = (ih (k + 1)).sound; length = (ih (k + 1)).length ∙ w.length }
-    go d w ih (Refused r) = w
+    go d w ih (Ok false) = record { sound = (ih k).sound; length = (ih k).length ∙ w.length }
+    go d w ih (Ok true) = record { sound = (ih (k + 1)).sound; length = (ih (k + 1)).length ∙ w.length }
+    go d w ih (Err r) = w
 
 pub stop_law : (table store : List ℕ) (n k : ℕ) (ls : List (List ℕ)) → is_phone_table table ≡ true → Sound store → every ascii ls ≡ true
     → Stopped store (with_count (filled table store n k ls).store largest)

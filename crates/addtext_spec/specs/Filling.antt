@@ -1,6 +1,6 @@
 -- 01, Lookup: Adding, and 02, S-2 and S-8. The lines of a text in turn, up to the first fault, the entries that they add, and the spare behind them.
 -- Assumes nothing.
-use Rattle.std.specs.Prelude.{ℕ, ◌+◌, ◌-◌, List, [], ◌∷◌, ◌++◌, eqb}
+use Rattle.std.specs.Prelude.{ℕ, ◌+◌, ◌-◌, Bool, true, false, Result, Ok, Err, List, [], ◌∷◌, ◌++◌, eqb}
 use Rattle.texts.specs.Choice.{when◌then◌else◌, bit}
 use Rattle.texts.specs.Lists.{some}
 use Rattle.lines.specs.Lines.{lines}
@@ -8,10 +8,9 @@ use Rattle.slots_spec.specs.Slot.{Entry}
 use Rattle.store_spec.specs.Store.{used, entries, same_key, count, with_count, largest}
 use Rattle.store_spec.specs.Adding.{adding}
 use Rattle.answers.specs.declared.Answer.{Answer}
+use Rattle.answers.specs.declared.Refusal.{Refusal}
 use Rattle.answers.specs.Told.{refusal_number, refused, accepted, accepted_with, written}
 use Rattle.addtext_spec.specs.Line.{Line, skipped, faulty, entry, read_line, line_entry, outcome, behind_line}
-use Rattle.addtext_spec.specs.declared.Outcome.{Outcome}
-use Rattle.addtext_spec.specs.declared.Outcome.TheVariants.{Skipped, Taken, Refused}
 
 -- how far the lines came: the answer, and the store with the lines before a fault applied
 pub record Filled : Type 0 where
@@ -19,10 +18,10 @@ pub record Filled : Type 0 where
   pub store : List ℕ
 
 -- behind the outcome of line n, with k entry lines taken before it and s the store behind it, `go` takes the lines that follow
-unfoldable pub onward : ℕ → ℕ → List ℕ → (ℕ → Filled) → Outcome → Filled
-onward n k s go Skipped = go k
-onward n k s go Taken = go (k + 1)
-onward n k s go (Refused r) = record { answer = refused (refusal_number r) n; store = s }
+unfoldable pub onward : ℕ → ℕ → List ℕ → (ℕ → Filled) → Result Bool Refusal → Filled
+onward n k s go (Ok false) = go k
+onward n k s go (Ok true) = go (k + 1)
+onward n k s go (Err r) = record { answer = refused (refusal_number r) n; store = s }
 
 -- the lines in turn, counted from n on; skipped ones count too
 unfoldable pub filled : List ℕ → List ℕ → ℕ → ℕ → List (List ℕ) → Filled

@@ -1,6 +1,6 @@
 -- 01, Lookup: Adding. What a line of a text of entries says, and the first of the refusals 3, 4, 5, 7 and 8 that applies to it.
 -- Assumes nothing.
-use Rattle.std.specs.Prelude.{ℕ, ◌+◌, false, not, ◌&&◌, List, [], ◌∷◌, map, leb, ltb, length, take, drop}
+use Rattle.std.specs.Prelude.{ℕ, ◌+◌, false, true, Bool, Result, Ok, Err, not, ◌&&◌, List, [], ◌∷◌, map, leb, ltb, length, take, drop}
 use Rattle.texts.specs.Choice.{when◌then◌else◌}
 use Rattle.texts.specs.Lists.{every, place}
 use Rattle.texts.specs.Text.{folded, is}
@@ -8,9 +8,8 @@ use Rattle.lines.specs.Lines.{content, is_empty, fields, stripped}
 use Rattle.slots_spec.specs.Slot.{Entry}
 use Rattle.store_spec.specs.Adding.{is_full, added}
 use Rattle.lexicon_spec.specs.Adding.{added_tag, may_add}
+use Rattle.answers.specs.declared.Refusal.{Refusal}
 use Rattle.answers.specs.declared.Refusal.TheVariants.{Text, Line as NoColon, UnknownPhone, Phones, Full}
-use Rattle.addtext_spec.specs.declared.Outcome.{Outcome}
-use Rattle.addtext_spec.specs.declared.Outcome.TheVariants.{Skipped, Taken, Refused}
 
 -- a line: blank or a comment; no colon or no word before it; or a word, a tag and phones
 pub data Line : Type 0 where
@@ -39,25 +38,25 @@ unfoldable pub line_entry : List ℕ → List ℕ → List (List ℕ) → Entry
 line_entry word tag phones = record { tag = added_tag tag; word = map folded word; phones = phones; exact = false }
 
 -- what comes of an entry line in a store: the first refusal that applies, in rank order, or it is taken; every byte of the text is below 128 by then
-unfoldable pub judged : List ℕ → List ℕ → List ℕ → List ℕ → List (List ℕ) → Outcome
+unfoldable pub judged : List ℕ → List ℕ → List ℕ → List ℕ → List (List ℕ) → Result Bool Refusal
 judged table store word tag phones =
-    when not (leb (length word) 47 && leb (length tag) 47) then Refused Text
-    else when not (every (may_add table) phones) then Refused UnknownPhone
-    else when ltb 24 (length phones) then Refused Phones
-    else when is_full store (line_entry word tag phones) then Refused Full
-    else Taken
+    when not (leb (length word) 47 && leb (length tag) 47) then Err Text
+    else when not (every (may_add table) phones) then Err UnknownPhone
+    else when ltb 24 (length phones) then Err Phones
+    else when is_full store (line_entry word tag phones) then Err Full
+    else Ok true
 
--- what comes of a line
-unfoldable pub outcome : List ℕ → List ℕ → Line → Outcome
-outcome table store skipped = Skipped
-outcome table store faulty = Refused NoColon
+-- what comes of a line: whether it adds an entry, or the first refusal
+unfoldable pub outcome : List ℕ → List ℕ → Line → Result Bool Refusal
+outcome table store skipped = Ok false
+outcome table store faulty = Err NoColon
 outcome table store (entry word tag phones) = judged table store word tag phones
 
 -- the store behind a line: with its entry added if it was taken
-unfoldable pub on_outcome : Outcome → List ℕ → List ℕ → List ℕ
-on_outcome Skipped store with = store
-on_outcome Taken store with = with
-on_outcome (Refused r) store with = store
+unfoldable pub on_outcome : Result Bool Refusal → List ℕ → List ℕ → List ℕ
+on_outcome (Ok false) store with = store
+on_outcome (Ok true) store with = with
+on_outcome (Err r) store with = store
 
 unfoldable pub behind_line : List ℕ → List ℕ → Line → List ℕ
 behind_line table store skipped = store

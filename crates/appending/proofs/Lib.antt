@@ -1,2 +1,1 @@
--- What the answers share. Assumes nothing.
-pub mod Behind
+mod Spans

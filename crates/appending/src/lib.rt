@@ -3,7 +3,7 @@
 
 #![tactic(auto)]
 
-ghost use Rattle.std.specs.Prelude.{◌≡◌, cond, ◌+◌, ◌-◌, ◌/◌, ◌≤◌, ◌<◌, eqb, length, get_or, take, drop};
+ghost use Rattle.std.specs.Prelude.{◌≡◌, ℕ, List, cond, ◌+◌, ◌*◌, ◌/◌, ◌≤◌, ◌<◌, eqb, length};
 ghost use Rattle.texts.specs.Lists.{from};
 ghost use Rattle.records.specs.Records.{put_record};
 ghost use Rattle.records.specs.Chain.{end_of};
@@ -13,61 +13,34 @@ ghost use Rattle.utterance_spec.specs.Tree.{syllables_at};
 ghost use Rattle.utterance_spec.specs.Sheet.{at, used as used_of, items};
 ghost use Rattle.utterance_spec.specs.Append.{head_or, size_in, numbered, phone_items, word_items, put_items, tied, appended};
 ghost use Rattle.utterance_spec.specs.Cuts.{grouped, cut_word, Ended};
-ghost use Rattle.appending.specs.Laws.Grouped.{span};
 ghost use Rattle.appending.specs.Laws.Putting.{phone_item, one_syllable, syllables_from};
 
 use utterance::{Fields, PHONE, SYLLABLE, WORD};
 
-// The place behind the next phone that ends a syllable.
-fn end_of(cuts: &[u8], i: usize) -> usize
-    requires { i ≤ length cuts.now }
-    ensures { result ≡ i + span (drop i cuts.now) }
-{
-    let mut e = i;
-    while e < cuts.len() {
-        if cuts[e] != 0 {
-            return e + 1;
-        }
-        e += 1;
-    }
-    e + 1
-}
-
-// How many items a word needs.
+// How many items a word needs: its own, and one for each phone and for each syllable.
 pub fn size(phones: &[u8], cuts: &[u8]) -> usize
     requires { (length cuts.now ≡ length phones.now / 16) × Ended cuts.now }
     ensures { result ≡ 1 + size_in (grouped cuts.now (phones_of phones.now)) }
 {
-    let count = phones.len() / 16;
-    let mut n = 1;
-    let mut i = 0;
-    while i < count {
-        let e = end_of(cuts, i);
-        n += 1 + (e - i);
-        i = e;
-    }
-    n
+    1 + phones.len() / 16 + cuts.iter().filter(|c| **c != 0).count()
 }
 
-// The number of a word's last syllable, where its first is k; 0 if it has none.
-fn last_syllable(phones: &[u8], cuts: &[u8], k: u16) -> u16
-    requires { (length cuts.now ≡ length phones.now / 16) × Ended cuts.now × (k + size_in (grouped cuts.now (phones_of phones.now)) ≤ 1024) }
-    ensures { result ≡ end_of 0 (syllables_at (numbered k (grouped cuts.now (phones_of phones.now)))) }
+// The number of the last syllable that cuts end, where the first is k; 0 if there is none.
+fn last_syllable(cuts: &[u8], k: u16) -> u16
+    requires { Ended cuts.now × (k + 2 * length cuts.now < 65536) }
+    ensures { (ps : List (List ℕ)) → length cuts.now ≡ length ps → result ≡ end_of 0 (syllables_at (numbered k (grouped cuts.now ps))) }
 {
-    let count = phones.len() / 16;
     let mut y = 0;
     let mut n = k;
-    let mut i = 0;
-    while i < count {
-        let e = end_of(cuts, i);
+    for marks in cuts.split_inclusive(|&c| c != 0) {
         y = n;
-        n += 1 + (e - i) as u16;
-        i = e;
+        n += 1 + marks.len() as u16;
     }
     y
 }
 
 // The number n if there are more items to come, else d.
+#[tactic(auto, using(crate::specs::Laws::Numbers::head_some, crate::specs::Laws::Numbers::head_none))]
 fn next_or(d: u16, n: u16, left: usize) -> u16
     ensures { result ≡ head_or d (from n left) }
 {
@@ -91,42 +64,32 @@ fn put_phone(sheet: &mut [u8], n: u16, y: u16, q: u16, a: u16, left: usize, text
     utterance::put_item(sheet, n, &phone);
 }
 
-// The phones i up to e as those of syllable y, from item y + 1 on; phone q stands before them, and phone a behind.
-fn put_phones(sheet: &mut [u8], y: u16, q: u16, a: u16, phones: &[u8], i: usize, e: usize)
-    requires { (i ≤ e) × (e ≤ length phones.now / 16) × (y + (e - i) < items sheet.old) × (length sheet.old ≤ 65536) }
-    ensures { sheet.new ≡ put_items sheet.old (y + 1) (phone_items y q a (from (y + 1) (e - i)) (take (e - i) (drop i (phones_of phones.now)))) }
+// The phones of syllable y, from item y + 1 on; phone q stands before them, and phone a behind.
+fn put_phones(sheet: &mut [u8], y: u16, q: u16, a: u16, phones: &[u8])
+    requires { (y + length phones.now / 16 < items sheet.old) × (length sheet.old ≤ 65536) }
+    ensures { sheet.new ≡ put_items sheet.old (y + 1) (phone_items y q a (from (y + 1) (length phones.now / 16)) (phones_of phones.now)) }
 {
-    let mut j = i;
-    let mut n = y + 1;
+    let count = phones.len() / 16;
+    let mut n = y;
     let mut before = q;
-    while j < e {
-        put_phone(sheet, n, y, before, a, e - (j + 1), cells::phone(phones, j));
-        before = n;
+    for j in 0..count {
         n += 1;
-        j += 1;
+        let text = cells::phone(phones, j);
+        put_phone(sheet, n, y, before, a, count - (j + 1), text);
+        before = n;
     }
 }
 
-// The phones i up to e as syllable k of word w, with their items; phone q stands before them.
-fn put_syllable(
-    sheet: &mut [u8],
-    w: u16,
-    q: u16,
-    k: u16,
-    phones: &[u8],
-    cuts: &[u8],
-    i: usize,
-    e: usize,
-)
-    requires { (length cuts.now ≡ length phones.now / 16) × (i < e) × (e ≤ length cuts.now) × (k + (e - i) < items sheet.old) × (length sheet.old ≤ 65536) }
-    ensures { sheet.new ≡ put_items sheet.old k (one_syllable w q k (get_or cuts.now (e - 1) 0) (e - i) (length cuts.now - e) (take (e - i) (drop i (phones_of phones.now)))) }
+// Syllable k of word w, with the items of its phones; phone q stands before them, and left phones of the word behind.
+fn put_syllable(sheet: &mut [u8], w: u16, q: u16, k: u16, stress: u8, phones: &[u8], left: usize)
+    requires { (k + length phones.now / 16 < items sheet.old) × (length sheet.old ≤ 65536) }
+    ensures { sheet.new ≡ put_items sheet.old k (one_syllable w q k stress (length phones.now / 16) left (phones_of phones.now)) }
 {
-    let end = k + (e - i) as u16;
-    let left = cuts.len() - e;
+    let end = k + (phones.len() / 16) as u16;
     let a = next_or(0, end + 2, left);
     let syllable = Fields {
         kind: SYLLABLE,
-        stress: cuts[e - 1],
+        stress,
         next: next_or(0, end + 1, left),
         first: k + 1,
         last: end,
@@ -134,7 +97,7 @@ fn put_syllable(
         ..Fields::default()
     };
     utterance::put_item(sheet, k, &syllable);
-    put_phones(sheet, k, q, a, phones, i, e);
+    put_phones(sheet, k, q, a, phones);
 }
 
 // The syllables of word w, from item w + 1 on; phone q stands before them.
@@ -144,13 +107,14 @@ fn put_syllables(sheet: &mut [u8], w: u16, q: u16, phones: &[u8], cuts: &[u8])
 {
     let mut k = w + 1;
     let mut before = q;
-    let mut i = 0;
-    while i < cuts.len() {
-        let e = end_of(cuts, i);
-        put_syllable(sheet, w, before, k, phones, cuts, i, e);
-        before = k + (e - i) as u16;
+    let mut left = phones;
+    for marks in cuts.split_inclusive(|&c| c != 0) {
+        let (own, behind) = left.split_at(16 * marks.len());
+        let stress = marks[marks.len() - 1];
+        put_syllable(sheet, w, before, k, stress, own, behind.len() / 16);
+        before = k + marks.len() as u16;
         k = before + 1;
-        i = e;
+        left = behind;
     }
 }
 
@@ -162,7 +126,7 @@ fn put_word(sheet: &mut [u8], n: u16, q: u16, word: &[u8], source: u8, phones: &
     let item = Fields {
         kind: WORD,
         first: next_or(0, n + 1, cuts.len()),
-        last: last_syllable(phones, cuts, n + 1),
+        last: last_syllable(cuts, n + 1),
         source,
         text: word,
         ..Fields::default()
@@ -180,6 +144,7 @@ fn link(w: u16) -> usize
 
 // Ties word n and its first phone a behind word w and phone q, and patches item 0: its last word, its last phone z, and
 // u items used.
+#[tactic(auto, unfolding(utterance_spec::specs::Append::tied))]
 fn tie(sheet: &mut [u8], w: u16, q: u16, n: u16, a: u16, z: u16, u: u16)
     requires { (w < items sheet.old) × (q < items sheet.old) }
     ensures { sheet.new ≡ tied sheet.old w q n a z u }

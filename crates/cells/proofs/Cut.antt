@@ -1,24 +1,14 @@
--- Cells as the code cuts them out of a list. Assumes nothing.
+-- A cell as the code writes it into a list: zeros, a length, a text. Assumes nothing.
 use native.Mathlib.Nat.{zero-sub, suc-sub-suc, sub-zero, suc-add}
 use native.Mathlib.Numerals.{one-add}
-use Prim.Native.Nat.{ℕ, zero, suc, ◌+◌, ◌-◌, ◌*◌, ◌≤◌, min}
+use Prim.Native.Nat.{ℕ, zero, suc, ◌+◌, ◌-◌, ◌*◌, ◌≤◌}
 use native.Mathlib.Omega.{arith}
-use native.Mathlib.Decide.{dec_le}
 use mathlib.Core.Path.{◌≡◌, sym, ap, ◌∙◌}
 use mathlib.Core.List.{List, [], ◌∷◌, ◌++◌, append_assoc}
-use lib.ListN.{length, get_or, take, drop, set, replicate, length-drop}
+use lib.ListN.{length, drop, set, replicate}
 use lib.Seq.{take_all, take-length, drop-append-le, paste}
 use Rattle.records.specs.Records.{put_record}
-use Rattle.cells.specs.Cells.{text, cell, length_cell}
-
--- a cell has 15 bytes behind its length byte, so a longer text is all of them
-pub text_cut : (c : List ℕ) → length c ≡ 16 → text c ≡ take (min (get_or c 0 0) 15) (drop 1 c)
-unfolding text
-text_cut c h = go (dec_le (get_or c 0 0) 15) (rw length-drop (omega arith))
-  where
-    go : Dec (get_or c 0 0 ≤ 15) → length (drop 1 c) ≡ 15 → take (get_or c 0 0) (drop 1 c) ≡ take (min (get_or c 0 0) 15) (drop 1 c)
-    go (yes p) l = let m : min (get_or c 0 0) 15 ≡ get_or c 0 0 = omega arith in rw m
-    go (no f) l = take_all (get_or c 0 0) (drop 1 c) (omega arith) ∙ sym (take_all (min (get_or c 0 0) 15) (drop 1 c) (omega arith))
+use Rattle.cells.specs.Cells.{cell, length_cell}
 
 drop_replicate : (n m : ℕ) → drop n (replicate m zero) ≡ replicate (m - n) zero
 drop_replicate zero m = rw sub-zero

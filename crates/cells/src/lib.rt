@@ -8,12 +8,12 @@ ghost use Rattle.records.specs.Records.{put_record};
 ghost use Rattle.cells.specs.Cells.{text as text_of, phones_of, ascii_phones, short_phones, cell, cells_of};
 
 // The text of a cell.
-#[tactic(auto, using(crate::proofs::Cut::text_cut))]
+#[tactic(auto, unfolding(crate::specs::Cells::text))]
 pub fn text(cell: &[u8]) -> &[u8]
     requires { length cell.now ≡ 16 }
     ensures { result.now ≡ text_of cell.now }
 {
-    &cell[1..1 + usize::from(cell[0].min(15))]
+    texts::counted(cell)
 }
 
 // Phone i of a list handed in.

@@ -2,78 +2,53 @@
 
 #![tactic(auto)]
 
-ghost use Rattle.std.specs.Prelude.{◌≡◌, true, ◌+◌, ◌-◌, ◌<◌, ◌^◌};
+ghost use Rattle.std.specs.Prelude.{◌≡◌, ◌+◌, ◌-◌, ◌<◌};
 ghost use Rattle.texts.specs.Lists.{every, up_to};
-ghost use Rattle.data.specs.Sections.{is_phone_table};
 ghost use Rattle.compiled_spec.specs.Entries.{count};
 ghost use Rattle.compiled_spec.specs.Lexicon.{is_good, rises as rises_at};
 ghost use Rattle.answers.specs.Told.{told_verdict};
 ghost use Rattle.check_lexicon.specs.CheckLexicon.{check_lexicon};
 
-use answers::{Refusal, Verdict};
+use answers::Refusal;
+use compiled::Lexicon;
 
 // Whether entry i is whole and every number of it has a phone.
-fn is_good(phones: &[u8], index: &[u8], lex_data: &[u8], i: usize) -> bool
-    requires { (is_phone_table phones.now ≡ true) × (i < 2 ^ 32) }
-    ensures { result ≡ is_good phones.now index.now lex_data.now i }
+#[tactic(auto, unfolding(compiled_spec::specs::Lexicon::is_good))]
+fn is_good(lexicon: &Lexicon, i: usize) -> bool
+    requires { i < count lexicon.now.index.now }
+    ensures { result ≡ is_good lexicon.now.table.bytes.now lexicon.now.index.now lexicon.now.entries.now i }
 {
-    let s = compiled::entry(index, lex_data, i);
-    if !compiled::is_whole(s) {
-        return false;
-    }
-    compiled::is_spoken(phones, s)
+    let s = lexicon.entry(i);
+    compiled::is_whole(s) && lexicon.is_spoken(s)
 }
 
-fn are_good(phones: &[u8], index: &[u8], lex_data: &[u8]) -> bool
-    requires { is_phone_table phones.now ≡ true }
-    ensures { result ≡ every (is_good phones.now index.now lex_data.now) (up_to (count index.now)) }
+fn are_good(lexicon: &Lexicon) -> bool
+    ensures { let l = lexicon.now in result ≡ every (is_good l.table.bytes.now l.index.now l.entries.now) (up_to (count l.index.now)) }
 {
-    let n = data::count(index);
-    let mut i = 0;
-    while i < n {
-        if !is_good(phones, index, lex_data, i) {
-            return false;
-        }
-        i += 1;
-    }
-    true
+    (0..lexicon.len()).all(|i| is_good(lexicon, i))
 }
 
-// Whether the word behind entry i is not smaller than its own.
-fn rises(index: &[u8], lex_data: &[u8], i: usize) -> bool
-    requires { i + 1 < 2 ^ 32 }
-    ensures { result ≡ rises_at index.now lex_data.now i }
+// Whether the word of entry i is not smaller than the one before it.
+#[tactic(auto, unfolding(compiled_spec::specs::Lexicon::rises))]
+fn rises(lexicon: &Lexicon, i: usize) -> bool
+    requires { (0 < i) × (i < count lexicon.now.index.now) }
+    ensures { result ≡ rises_at lexicon.now.index.now lexicon.now.entries.now (i - 1) }
 {
-    let behind = compiled::word(compiled::entry(index, lex_data, i + 1));
-    !texts::smaller(behind, compiled::word(compiled::entry(index, lex_data, i)))
+    let before = compiled::word(lexicon.entry(i - 1));
+    !texts::smaller(compiled::word(lexicon.entry(i)), before)
 }
 
-fn all_rise(index: &[u8], lex_data: &[u8]) -> bool
-    ensures { result ≡ every (rises_at index.now lex_data.now) (up_to (count index.now - 1)) }
+fn all_rise(lexicon: &Lexicon) -> bool
+    ensures { result ≡ every (rises_at lexicon.now.index.now lexicon.now.entries.now) (up_to (count lexicon.now.index.now - 1)) }
 {
-    let n = data::count(index);
-    let mut i = 1;
-    while i < n {
-        if !rises(index, lex_data, i - 1) {
-            return false;
-        }
-        i += 1;
-    }
-    true
+    (1..lexicon.len()).all(|i| rises(lexicon, i))
 }
 
-pub fn check_lexicon(phones: &[u8], index: &[u8], lex_data: &[u8]) -> Verdict
+#[tactic(auto, unfolding(crate::specs::CheckLexicon::check_lexicon, compiled_spec::specs::Lexicon::is_checked))]
+pub fn check_lexicon(phones: &[u8], index: &[u8], lex_data: &[u8]) -> Result<bool, Refusal>
     ensures { told_verdict result ≡ check_lexicon phones.now index.now lex_data.now }
 {
-    if !compiled::is_lexicon(phones, index) {
-        return Verdict::Refused(Refusal::Section);
-    }
-    if !are_good(phones, index, lex_data) {
-        return Verdict::No;
-    }
-    if all_rise(index, lex_data) {
-        Verdict::Yes
-    } else {
-        Verdict::No
-    }
+    let mut places = [0; 256];
+    let lexicon = Lexicon::read(phones, index, lex_data, &mut places).ok_or(Refusal::Section)?;
+    Ok(are_good(&lexicon) && all_rise(&lexicon))
 }

@@ -1,28 +1,9 @@
 // One compiled entry: tag, word length, word, phone count, phone numbers. Parts past the end of the
 // bytes are cut short, and `is_whole` tells.
-ghost use Rattle.std.specs.Prelude.{◌≡◌, true, false, ◌+◌, ◌*◌, ◌<◌, ◌^◌, length, MatchResult};
-ghost use Rattle.data.specs.Sections.{is_phone_table};
-ghost use Rattle.compiled_spec.specs.Entries.{tag_of, word_of, numbers_of, is_whole, is_spoken, entry_at};
+ghost use Rattle.std.specs.Prelude.{◌≡◌, true, false, MatchResult};
+ghost use Rattle.compiled_spec.specs.Entries.{tag_of, word_of, numbers_of, is_whole};
 
 use compiled_spec::Damaged;
-
-// Entry i: the bytes from its offset on.
-#[tactic(auto, unfolding(compiled_spec::specs::Entries::entry_at))]
-pub fn entry<'a>(index: &[u8], lex_data: &'a [u8], i: usize) -> &'a [u8]
-    requires { i < 2 ^ 61 }
-    ensures { result.now ≡ entry_at index.now lex_data.now i }
-{
-    records::tail(lex_data, records::u32_at(index, 4 + 4 * i) as usize)
-}
-
-// Entry i, whose offset lies inside the index.
-#[tactic(auto, unfolding(compiled_spec::specs::Entries::entry_at))]
-pub fn entry_in<'a>(index: &[u8], lex_data: &'a [u8], i: usize) -> &'a [u8]
-    requires { 4 + 4 * i + 3 < length index.now }
-    ensures { result.now ≡ entry_at index.now lex_data.now i }
-{
-    records::tail(lex_data, records::u32_in(index, 4 + 4 * i) as usize)
-}
 
 #[tactic(auto, unfolding(compiled_spec::specs::Entries::tag_of))]
 pub fn tag(s: &[u8]) -> u8
@@ -70,13 +51,4 @@ pub fn whole_word(s: &[u8]) -> Result<&[u8], Damaged>
     } else {
         Err(Damaged)
     }
-}
-
-// Whether every number has a phone.
-pub fn is_spoken(phones: &[u8], s: &[u8]) -> bool
-    requires { is_phone_table phones.now ≡ true }
-    ensures { result ≡ is_spoken phones.now s.now }
-{
-    let count = data::table_count(phones);
-    numbers(s).iter().all(|&n| usize::from(n) < count)
 }

@@ -6,6 +6,5 @@ mod entries;
 mod search;
 mod sections;
 
-pub use entries::{entry, is_spoken, is_whole, numbers, word};
-pub use search::choose;
-pub use sections::{is_lexicon, read_lexicon};
+pub use entries::{is_whole, numbers, word};
+pub use sections::Lexicon;

@@ -84,4 +84,5 @@ module _ (index dat word : List ℕ) (tag lo n i : ℕ) where
 
 -- these laws for the proofs of both loops
 pub ruleset halving = (search_end, search_damaged, search_up, search_down)
+
 pub ruleset walking = (tagged_end, tagged_damaged, tagged_other, tagged_stop, tagged_turn, same_pointwise)

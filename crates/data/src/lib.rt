@@ -58,21 +58,20 @@ pub fn table_count(s: &[u8]) -> usize
 }
 
 // A phone table, and where each of its phones stands in it.
-#[derive(Drop)]
+#[derive(Clone, Copy)]
 pub struct Table<'a> {
     pub bytes: &'a [u8],
-    places: [u16; 256],
+    places: &'a [u16; 256],
     ghost is_table: { is_phone_table bytes.now ≡ true },
-    ghost placed: { take (u32_at bytes.now 0) places ≡ places_of (u32_at bytes.now 0) bytes.now 4 },
+    ghost placed: { take (u32_at bytes.now 0) places.now ≡ places_of (u32_at bytes.now 0) bytes.now 4 },
 }
 
 impl<'a> Table<'a> {
-    // The table that these bytes are, if they are one.
-    pub fn read(bytes: &'a [u8]) -> Option<Table<'a>>
+    // The table that these bytes are, if they are one; the places go into the memory that the caller lends for them.
+    pub fn read(bytes: &'a [u8], places: &'a mut [u16; 256]) -> Option<Table<'a>>
         ensures { MatchOption result (is_phone_table bytes.now ≡ false) (λ t. t.bytes ≡ bytes.entry) }
     {
-        let mut places = [0u16; 256];
-        if !read_table(bytes, &mut places) {
+        if !read_table(bytes, places) {
             return None;
         }
         Some(Table { bytes, places })

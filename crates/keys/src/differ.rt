@@ -6,26 +6,27 @@ ghost use Rattle.store_spec.specs.Laws.Hashes.{hash_at};
 ghost use Rattle.store_spec.specs.Store.{next as next_of, entry_at, same_key, keys_differ};
 
 use crate::hashes;
+use store::Wanted;
 
 // Whether one of the n slots behind p has the key of the entry in slot p.
 fn has_key(store: &[u8], p: usize, n: usize) -> bool
     requires { p < 65536 }
     ensures { result ≡ some (same_key (entry_at store.now p)) (map (entry_at store.now) (chain (next_of store.now) n p)) }
 {
-    let wanted = store::slot(store, p);
+    let slot = store::slot(store, p);
+    let wanted = Wanted {
+        exact: slots::is_exact(slot),
+        any: false,
+        word: slots::word(slot),
+        tag: slots::tag(slot),
+    };
     let mut q = p;
     for _ in 0..n {
         q = store::next(store, q);
         if q == 0 {
             return false;
         }
-        if store::is_wanted(
-            store::slot(store, q),
-            slots::is_exact(wanted),
-            false,
-            slots::word(wanted),
-            slots::tag(wanted),
-        ) {
+        if store::is_wanted(store::slot(store, q), &wanted) {
             return true;
         }
     }

@@ -2,39 +2,44 @@
 
 #![tactic(auto)]
 
-ghost use Rattle.std.specs.Prelude.{◌≡◌, true, false, map, ◌++◌, ◌*◌, ◌/◌, ◌≤◌, ◌<◌, length, get_or, drop, IfSome, []};
+ghost use Rattle.std.specs.Prelude.{◌≡◌, true, false, map, ◌++◌, ◌*◌, ◌/◌, ◌≤◌, ◌<◌, length, get_or, drop, IfSome};
 ghost use Rattle.texts.specs.Lists.{first};
 ghost use Rattle.texts.specs.Text.{folded};
-ghost use Rattle.records.specs.Fields.{u32_at};
 ghost use Rattle.cells.specs.Cells.{phones_of, cells_of};
-ghost use Rattle.data.specs.Places.{Placed};
-ghost use Rattle.data.specs.Sections.{is_phone_table, table_phones};
 ghost use Rattle.addenda.specs.Addenda.{addenda, no_addendum};
 ghost use Rattle.store_spec.specs.Store.{is_sound, is_wanted, entries};
-ghost use Rattle.compiled_spec.specs.Lexicon.{is_lexicon};
 ghost use Rattle.compiled_spec.specs.Entries.{is_spoken, entry_phones};
 ghost use Rattle.answers.specs.Told.{told_looked};
 ghost use Rattle.answers.specs.declared.Source.TheVariants.{Runtime, Addenda};
-ghost use Rattle.lexicon_spec.specs.Lookup.{found, spoken, chosen_entry, find as find_of, from_compiled, told_finding, out_finding};
-ghost use Rattle.lexicon.specs.Parts.{held, answer};
+ghost use Rattle.lexicon_spec.specs.Lookup.{found, spoken, chosen_entry, told_finding, out_finding};
+ghost use Rattle.lexicon.specs.Parts.{held, answer, compiled_in, find_in};
 
 use answers::{Found, Refusal, Source};
+use compiled::Lexicon;
 use compiled_spec::Damaged;
+use data::Table;
+use store::Wanted;
 
 // The slot of the oldest entry of a sound store with this word, exact or ordinary, whose tag agrees.
-#[tactic(auto, using(crate::proofs::Parts::oldest_none, crate::proofs::Parts::oldest_some))]
+#[tactic(auto, using(crate::proofs::Parts::oldest))]
 fn oldest(store: &[u8], exact: bool, word: &[u8], tag: u8) -> Option<usize>
     requires { is_sound store.now ≡ true }
     ensures which { held store.now result ≡ first (is_wanted exact true word.now tag) (entries store.now) }
     ensures inside { IfSome result (λ n. n < 65536) }
 {
-    let p = store::seek(store, store::used(store), exact, true, word, tag);
+    let wanted = Wanted {
+        exact,
+        any: true,
+        word,
+        tag,
+    };
+    let p = store::seek(store, store::used(store), &wanted);
     let n = store::next(store, p);
     if n == 0 { None } else { Some(n) }
 }
 
 // The slot of the oldest exact one; a store without exact entries is not searched in order.
-#[tactic(auto, using(lexicon_spec::proofs::Exact::none_exact, store_spec::proofs::Laws::Exact::all_ordinary, store_spec::proofs::Sound::sound))]
+#[tactic(auto, using(crate::proofs::Parts::exactness))]
 fn oldest_exact(store: &[u8], word: &[u8], tag: u8) -> Option<usize>
     requires { is_sound store.now ≡ true }
     ensures which { held store.now result ≡ first (is_wanted true true word.now tag) (entries store.now) }
@@ -82,7 +87,7 @@ fn answer(source: Source, phones: usize, room: usize) -> Result<Found, Refusal>
 }
 
 // The phones in cells as an answer.
-#[tactic(auto, using(cells::specs::Cells::length_phones_of, cells::specs::Cells::phone_fits_lem, cells::specs::Cells::cells_front))]
+#[tactic(auto, using(crate::proofs::Parts::copied))]
 fn give_cells(list: &[u8], out: &mut [u8]) -> Result<Option<Found>, Refusal>
     ensures result_value { told_looked result ≡ told_finding (found Runtime (phones_of list.now)) out.old }
     ensures out_after { out.new ≡ out_finding (found Runtime (phones_of list.now)) out.old }
@@ -103,88 +108,61 @@ fn give_row(n: usize, out: &mut [u8]) -> Result<Option<Found>, Refusal>
     Ok(Some(row))
 }
 
-// Phone n of a table, whose phones stand at these places.
-#[tactic(auto, unfolding(data::specs::Places::Placed), using(data::specs::Places::phone_placed, data::specs::Sections::table_count))]
-fn phone<'a>(phones: &'a [u8], places: &[u16], n: u8) -> &'a [u8]
-    requires placed { Placed phones.now places.now }
-    requires there { (is_phone_table phones.now ≡ true) × (n < u32_at phones.now 0) }
-    ensures { result.now ≡ get_or (table_phones phones.now) n [] }
-{
-    data::phone_at(phones, places[usize::from(n)])
-}
-
-// The phones of a compiled entry as cells at the front of out; places are those of the table's phones.
-#[tactic(auto, using(compiled_spec::proofs::Entries::number_in, compiled_spec::proofs::Entries::spoken_at, compiled_spec::proofs::Entries::spoken_fits, compiled_spec::proofs::Entries::length_spoken, cells::specs::Cells::cells_turn, cells::specs::Cells::cells_front))]
-fn put_spoken(phones: &[u8], places: &[u16], s: &[u8], out: &mut [u8])
-    requires placed { Placed phones.now places.now }
-    requires phones_value { (is_phone_table phones.now ≡ true) × (is_spoken phones.now s.now ≡ true) × (16 * length (entry_phones phones.now s.now) ≤ length out.old) }
-    ensures { out.new ≡ cells_of (entry_phones phones.now s.now) ++ drop (16 * length (entry_phones phones.now s.now)) out.old }
+// The phones of a compiled entry as cells at the front of out.
+#[tactic(auto, using(crate::proofs::Parts::speaking))]
+fn put_spoken(table: &Table, s: &[u8], out: &mut [u8])
+    requires { (is_spoken table.now.bytes.now s.now ≡ true) × (16 * length (entry_phones table.now.bytes.now s.now) ≤ length out.old) }
+    ensures { out.new ≡ cells_of (entry_phones table.now.bytes.now s.now) ++ drop (16 * length (entry_phones table.now.bytes.now s.now)) out.old }
 {
     for (i, &n) in compiled::numbers(s).iter().enumerate() {
-        cells::put_cell(out, i, phone(phones, places, n));
+        cells::put_cell(out, i, table.phone(n));
     }
 }
 
 // The phones of a whole compiled entry as an answer; damage if a number has no phone.
 #[tactic(auto, using(compiled_spec::proofs::Entries::length_spoken))]
-fn give_spoken(
-    phones: &[u8],
-    places: &[u16],
-    s: &[u8],
-    out: &mut [u8],
-) -> Result<Option<Found>, Refusal>
-    requires placed { Placed phones.now places.now }
-    requires phones_value { is_phone_table phones.now ≡ true }
-    ensures result_value { told_looked result ≡ told_finding (spoken phones.now s.now) out.old }
-    ensures out_after { out.new ≡ out_finding (spoken phones.now s.now) out.old }
+fn give_spoken(lexicon: &Lexicon, s: &[u8], out: &mut [u8]) -> Result<Option<Found>, Refusal>
+    ensures result_value { told_looked result ≡ told_finding (spoken lexicon.now.table.bytes.now s.now) out.old }
+    ensures out_after { out.new ≡ out_finding (spoken lexicon.now.table.bytes.now s.now) out.old }
 {
-    if !compiled::is_spoken(phones, s) {
+    if !lexicon.is_spoken(s) {
         return Err(Refusal::Damaged);
     }
     let entry = answer(Source::Compiled, compiled::numbers(s).len(), out.len())?;
-    put_spoken(phones, places, s, out);
+    put_spoken(&lexicon.table, s, out);
     Ok(Some(entry))
 }
 
 // The compiled answer.
-#[tactic(auto, unfolding(lexicon_spec::specs::Lookup::from_compiled), using(compiled_spec::proofs::Lexicon::index_room, compiled_spec::proofs::Lexicon::lexicon_table, compiled_spec::proofs::Laws::Below::below))]
+#[tactic(auto, unfolding(lexicon_spec::specs::Lookup::from_compiled), using(compiled_spec::proofs::Laws::Below::below))]
 fn give_compiled(
-    phones: &[u8],
-    places: &[u16],
-    index: &[u8],
-    dat: &[u8],
+    lexicon: &Lexicon,
     word: &[u8],
     tag: u8,
     out: &mut [u8],
 ) -> Result<Option<Found>, Refusal>
-    requires placed { Placed phones.now places.now }
-    requires index_value { is_lexicon phones.now index.now ≡ true }
-    ensures result_value { told_looked result ≡ told_finding (from_compiled phones.now index.now dat.now word.now tag) out.old }
-    ensures out_after { out.new ≡ out_finding (from_compiled phones.now index.now dat.now word.now tag) out.old }
+    ensures result_value { told_looked result ≡ told_finding (compiled_in lexicon.now word.now tag) out.old }
+    ensures out_after { out.new ≡ out_finding (compiled_in lexicon.now word.now tag) out.old }
 {
-    match compiled::choose(index, dat, word, tag) {
+    match lexicon.choose(word, tag) {
         Err(Damaged) => Err(Refusal::Damaged),
         Ok(None) => Ok(None),
-        Ok(Some(i)) => give_spoken(phones, places, compiled::entry(index, dat, i), out),
+        Ok(Some(i)) => give_spoken(lexicon, lexicon.entry(i), out),
     }
 }
 
 // The word in a sound store's entries, the addenda or the compiled entries.
-#[tactic(auto, unfolding(store_spec::specs::Store::entry_at), using(lexicon_spec::proofs::Lookup::find_runtime, lexicon_spec::proofs::Lookup::find_row, lexicon_spec::proofs::Lookup::find_compiled))]
+#[tactic(auto, unfolding(store_spec::specs::Store::entry_at), using(crate::proofs::Parts::finding))]
 pub fn find(
-    phones: &[u8],
-    places: &[u16],
-    index: &[u8],
-    dat: &[u8],
+    lexicon: &Lexicon,
     store: &[u8],
     word: &[u8],
     tag: u8,
     out: &mut [u8],
 ) -> Result<Option<Found>, Refusal>
-    requires placed { Placed phones.now places.now }
-    requires index_value { (is_lexicon phones.now index.now ≡ true) × (is_sound store.now ≡ true) × (length word.now ≤ 47) }
-    ensures result_value { told_looked result ≡ told_finding (find_of (entries store.now) phones.now index.now dat.now word.now tag) out.old }
-    ensures out_after { out.new ≡ out_finding (find_of (entries store.now) phones.now index.now dat.now word.now tag) out.old }
+    requires { (is_sound store.now ≡ true) × (length word.now ≤ 47) }
+    ensures result_value { told_looked result ≡ told_finding (find_in lexicon.now (entries store.now) word.now tag) out.old }
+    ensures out_after { out.new ≡ out_finding (find_in lexicon.now (entries store.now) word.now tag) out.old }
 {
     if let Some(n) = runtime(store, word, tag) {
         return give_cells(slots::phones(store::slot(store, n)), out);
@@ -193,5 +171,5 @@ pub fn find(
     if row < 42 {
         return give_row(row, out);
     }
-    give_compiled(phones, places, index, dat, word, tag, out)
+    give_compiled(lexicon, word, tag, out)
 }

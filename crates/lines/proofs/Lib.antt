@@ -1,1 +1,2 @@
 mod UpTo
+mod ByEnds

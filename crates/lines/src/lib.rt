@@ -3,11 +3,12 @@
 
 #![tactic(auto)]
 
-ghost use Rattle.std.specs.Prelude.{◌≡◌, ◌≤◌, ◌<◌, length, drop};
-ghost use Rattle.std.specs.Iterator.{YieldsFirstRef, item_count};
+ghost use Rattle.std.specs.Prelude.{◌≡◌, length};
+ghost use Rattle.std.specs.Iterator.{YieldsFirstRef, at_most};
 ghost use Rattle.texts.specs.Lists.{place};
 ghost use Rattle.texts.specs.Text.{blank};
-ghost use Rattle.lines.specs.Lines.{first_line, after_line, content as content_of, ink, inked as inked_of, field as field_of, fields, after_field, is_empty, unquoted, open_end, stripped, lines};
+ghost use Rattle.lines.specs.Lines.{first_line, after_line, lines, content as content_of, unquoted, open_end, stripped};
+ghost use Rattle.lines.specs.Lines.{ink, inked as inked_of, is_empty, field as field_of, after_field, fields};
 ghost use Rattle.lines.specs.Left.{fields_left, lines_left};
 
 // The first line of a text.
@@ -35,7 +36,7 @@ pub fn content(line: &[u8]) -> &[u8]
     records::head(line, texts::find(line, b'#'))
 }
 
-// The place of the first blank, the length where there is none.
+// How many bytes stand before the first blank.
 fn find_blank(s: &[u8]) -> usize
     ensures { result ≡ place blank s.now }
 {
@@ -44,7 +45,7 @@ fn find_blank(s: &[u8]) -> usize
         .unwrap_or(s.len())
 }
 
-// The place of the first byte that is no blank.
+// How many blanks stand at the front.
 fn find_ink(s: &[u8]) -> usize
     ensures { result ≡ place ink s.now }
 {
@@ -87,28 +88,6 @@ pub fn after_field(s: &[u8]) -> &[u8]
     records::tail(t, find_blank(t))
 }
 
-// Where the first field from `at` on ends.
-pub fn field_end(s: &[u8], at: usize) -> usize
-    requires { at ≤ length s.now }
-    ensures { (drop result s.now ≡ after_field (drop at s.now)) × (result ≤ length s.now) }
-{
-    let rest = records::tail(s, at);
-    let n = find_ink(rest);
-    at + n + find_blank(records::tail(rest, n))
-}
-
-// Where the line behind the first from `at` on begins.
-pub fn line_end(text: &[u8], at: usize) -> usize
-    requires { at < length text.now }
-    ensures { (drop result text.now ≡ after_line (drop at text.now)) × (at < result) × (result ≤ length text.now) }
-{
-    let n = texts::find(records::tail(text, at), 10);
-    if at + n < text.len() {
-        return at + n + 1;
-    }
-    text.len()
-}
-
 // The fields that are left of a line.
 #[derive(Drop)]
 pub struct Fields<'a> {
@@ -128,9 +107,9 @@ impl<'a> Iterator for Fields<'a> {
 
     ghost next_gives = { YieldsFirstRef fields_left };
 
-    ghost remaining = { item_count fields_left };
+    ghost remaining = { λ f. at_most (length f.rest.now) };
 
-    #[tactic(auto, using(crate::specs::Laws::Turns::fields_none, crate::specs::Laws::Turns::fields_more))]
+    #[tactic(auto, using(crate::specs::Laws::Turns::field_turns))]
     fn next(&mut self) -> Option<&'a [u8]> {
         let line = self.rest;
         if is_empty(line) {
@@ -160,9 +139,9 @@ impl<'a> Iterator for Lines<'a> {
 
     ghost next_gives = { YieldsFirstRef lines_left };
 
-    ghost remaining = { item_count lines_left };
+    ghost remaining = { λ l. at_most (length l.rest.now) };
 
-    #[tactic(auto, using(crate::specs::Laws::Turns::lines_none, crate::specs::Laws::Turns::lines_first))]
+    #[tactic(auto, using(crate::specs::Laws::Turns::line_turns))]
     fn next(&mut self) -> Option<&'a [u8]> {
         let text = self.rest;
         if text.is_empty() {
@@ -173,7 +152,7 @@ impl<'a> Iterator for Lines<'a> {
     }
 }
 
-// The place of the first byte that is no quote mark.
+// How many quote marks stand at the front.
 fn find_unquoted(s: &[u8]) -> usize
     ensures { result ≡ place unquoted s.now }
 {

@@ -5,7 +5,8 @@ use native.Mathlib.Omega.{arith}
 use mathlib.Core.Path.{◌≡◌, sym, ap, ◌∙◌}
 use mathlib.Core.List.{List, [], ◌∷◌, ◌++◌, map, map-append, append_assoc, append-nil}
 use lib.ListN.{length, get_or, take, drop, set, replicate, length-append, length-map, length-drop, drop_of_length-le}
-use lib.Seq.{take-suc, take_at, set_at, append_snoc, take-length, take_all, length-take-le, paste}
+use lib.Seq.{take-suc, take_at, set_at, append_snoc, take-length, length-take-le}
+use borrow.Rule.Slice.PartMut.{put_mid}
 use Rattle.texts.specs.Text.{bytes, folded}
 use Rattle.lts_spec.specs.Letters.{padded, window}
 
@@ -39,23 +40,19 @@ module _ (word text : List ℕ) (i : ℕ) (short : length word ≤ 47) (e : text
       ap (λ (t : List ℕ). take (length word + 8) t) s ∙ take_at p more (length word + 8) l ∙ rw (ei, take-length word)
 
 -- four bytes before and four after make eight
-pub halves : (a b : List ℕ) → length a ≡ 4 → length b ≡ 4 → paste (paste (replicate 8 0) 0 a (length a)) 4 b (length b) ≡ a ++ b
+halves : (a b : List ℕ) → length a ≡ 4 → length b ≡ 4 → put_mid 4 4 (a ++ (0 ∷ 0 ∷ 0 ∷ 0 ∷ [])) b ≡ a ++ b
 halves a b ha hb =
-    let z : List ℕ = replicate 4 0 in
-    let one : paste (replicate 8 0) 0 a (length a) ≡ a ++ z = rw ha (ap (λ (x : List ℕ). x ++ z) (take_all 4 a (omega arith))) in
-    let none : drop 8 (a ++ z) ≡ [] = drop_of_length-le (a ++ z) {i = 8} (omega (arith, length-append a z)) in
-    rw (one, hb) (rw (take_at a z 4 ha, take_all 4 b (omega arith), none, append-nil))
+    let z : List ℕ = 0 ∷ 0 ∷ 0 ∷ 0 ∷ [] in
+    let none : drop 4 (drop 4 (a ++ z)) ≡ [] = drop_of_length-le (drop 4 (a ++ z)) {i = 4} (omega (arith, length-drop 4 (a ++ z), length-append a z)) in
+    rw (take_at a z 4 ha, none, append-nil)
 
-pub parts : (text : List ℕ) (k : ℕ) (f₁ f₂ : List ℕ) → 4 ≤ k → k + 4 < length text
-    → f₁ ≡ paste (replicate 8 0) 0 (take (k - (k - 4)) (drop (k - 4) text)) (length (take (k - (k - 4)) (drop (k - 4) text)))
-    → f₂ ≡ paste f₁ 4 (take (k + 5 - (k + 1)) (drop (k + 1) text)) (length (take (k + 5 - (k + 1)) (drop (k + 1) text)))
-    → f₂ ≡ window text k
+pub parts : (text : List ℕ) (k : ℕ) (a b : List ℕ) → 4 ≤ k → k + 4 < length text
+    → a ≡ take (k - (k - 4)) (drop (k - 4) text) → b ≡ take (k + 5 - (k + 1)) (drop (k + 1) text)
+    → put_mid 4 4 (a ++ (0 ∷ 0 ∷ 0 ∷ 0 ∷ [])) b ≡ window text k
 unfolding window
-parts text k f₁ f₂ low high e₁ e₂ =
+parts text k a b low high ea eb =
     let m : k - (k - 4) ≡ 4 = omega arith in
     let n : k + 5 - (k + 1) ≡ 4 = omega arith in
-    let a : List ℕ = take 4 (drop (k - 4) text) in
-    let b : List ℕ = take 4 (drop (k + 1) text) in
-    let la : length a ≡ 4 = length-take-le 4 (drop (k - 4) text) (rw length-drop (omega arith)) in
-    let lb : length b ≡ 4 = length-take-le 4 (drop (k + 1) text) (rw length-drop (omega arith)) in
-    e₂ ∙ rw (e₁, m, n) (halves a b la lb)
+    let la : length a ≡ 4 = rw (ea, m) (length-take-le 4 (drop (k - 4) text) (rw length-drop (omega arith))) in
+    let lb : length b ≡ 4 = rw (eb, n) (length-take-le 4 (drop (k + 1) text) (rw length-drop (omega arith))) in
+    halves a b la lb ∙ rw (ea, eb, m, n)

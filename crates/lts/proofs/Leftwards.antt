@@ -16,14 +16,10 @@ use Rattle.texts.specs.Text.{bytes, folded, same, is}
 use Rattle.records.specs.Fields.{u16_at, u32_at}
 use Rattle.cells.specs.Cells.{cell, cells_of}
 use Rattle.trees.specs.Walk.{walk}
-use Rattle.trees.specs.declared.Walked.{Walked}
-use Rattle.trees.specs.declared.Walked.TheVariants.{Phone, Damaged as damaged}
 use Rattle.lts_spec.specs.Letters.{padded, window, spoken, behind, leaf, letter, joined, up_to}
 use Rattle.lts_spec.proofs.Letters.{spoken_none, spoken_two, spoken_one}
 use Rattle.lts.specs.Puts.{Puts, Spells}
-use Rattle.lts.specs.declared.Letters.{Letters}
-use Rattle.lts.specs.declared.Letters.TheVariants.{From, Damaged}
-use Rattle.lts.specs.declared.Spelled.TheVariants.{From as spelled_from, Damaged as unspelled}
+use Rattle.std.proofs.Common.{Option as Told, Some, None}
 
 pub padded_length : (word : List ℕ) → length (padded word) ≡ length word + 8
 unfolding padded
@@ -61,11 +57,11 @@ module _ (phones index model : List ℕ) where
       short : (qs : List (List ℕ)) → length qs ≤ 2 → ◌≡◌ {A = Option (List (List ℕ))} (some qs) (some ps) → length ps ≤ 2
       short qs h e = let z : qs ≡ ps = cc in rw (← z) h
 
-      walked : (w : Walked) → leaf phones index model w ≡ some ps → length ps ≤ 2
-      walked (Phone p) e = short _ (spoken_short _) e
-      walked damaged e = let z : ◌≡◌ {A = ℕ} 0 1 = cc in absurd (omega arith)
+      walked : (w : Told ℕ) → leaf phones index model w ≡ some ps → length ps ≤ 2
+      walked (Some p) e = short _ (spoken_short _) e
+      walked None e = let z : ◌≡◌ {A = ℕ} 0 1 = cc in absurd (omega arith)
 
-      byte : (b : Bool) (w : Walked) → (when b then leaf phones index model w else some []) ≡ some ps → length ps ≤ 2
+      byte : (b : Bool) (w : Told ℕ) → (when b then leaf phones index model w else some []) ≡ some ps → length ps ≤ 2
       byte true w e = walked w e
       byte false w e = short [] zero-le e
 
@@ -92,36 +88,36 @@ module _ (phones index model : List ℕ) where
 
   module _ (text list₀ list : List ℕ) (n left at : ℕ) (s : Spelling text list₀ list n left at) where
     -- nothing more comes before the phones said
-    spelling_done : (place : ℕ) → up_to phones index model text left ≡ some [] → Spells (up_to phones index model text n) place list₀ (spelled_from at place) list
+    spelling_done : (place : ℕ) → up_to phones index model text left ≡ some [] → Spells (up_to phones index model text n) place list₀ (Some (record { first = at; stopped = place })) list
     spelling_done place e =
         let c = s.count in
         let f : 94 - length s.said ≡ at = omega arith in
         rw (s.rest, e) (rw f, (omega arith, rw f s.cells))
 
-    pub spelling_end : (place : ℕ) → left ≤ 0 → Spells (up_to phones index model text n) place list₀ (spelled_from at place) list
+    pub spelling_end : (place : ℕ) → left ≤ 0 → Spells (up_to phones index model text n) place list₀ (Some (record { first = at; stopped = place })) list
     unfolding up_to
     spelling_end place h = let e : left ≡ 0 = omega arith in spelling_done place (rw e)
 
-    pub spelling_stop : (place : ℕ) → 0 < left → is 35 (get_or text (left + 3) 0) ≡ true → Spells (up_to phones index model text n) place list₀ (spelled_from at place) list
+    pub spelling_stop : (place : ℕ) → 0 < left → is 35 (get_or text (left + 3) 0) ≡ true → Spells (up_to phones index model text n) place list₀ (Some (record { first = at; stopped = place })) list
     spelling_stop place h e = spelling_done place (up_to_turn text left h ∙ rw e)
 
-    module _ (h : 0 < left) (e : is 35 (get_or text (left + 3) 0) ≡ false) (list' : List ℕ) (r : Letters) where
+    module _ (h : 0 < left) (e : is 35 (get_or text (left + 3) 0) ≡ false) (list' : List ℕ) (r : Told ℕ) where
       left_turn : (o : Option (List (List ℕ))) → letter phones index model text (left + 3) ≡ o
           → up_to phones index model text n ≡ behind (joined phones index model (up_to phones index model text (left - 1)) o) s.said
       left_turn o eo = s.rest ∙ rw (up_to_turn text left h, e, eo)
 
       -- a damaged tree
-      pub spelling_damaged : (place : ℕ) → Puts (letter phones index model text (left + 3)) list at r list' → r ≡ Damaged
-          → Spells (up_to phones index model text n) place list₀ unspelled list'
+      pub spelling_damaged : (place : ℕ) → Puts (letter phones index model text (left + 3)) list at r list' → r ≡ None
+          → Spells (up_to phones index model text n) place list₀ None list'
       spelling_damaged place p er = go (letter phones index model text (left + 3)) refl p
         where
           go : (o : Option (List (List ℕ))) → letter phones index model text (left + 3) ≡ o → Puts o list at r list'
-              → Spells (up_to phones index model text n) place list₀ unspelled list'
+              → Spells (up_to phones index model text n) place list₀ None list'
           go none eo p = rw (left_turn none eo) refl
           go (some ps) eo p = let q = p.0 in let z : ◌≡◌ {A = ℕ} 0 1 = cc in absurd (omega arith)
 
       -- one byte more
-      pub spelling_turn : (first : ℕ) → Puts (letter phones index model text (left + 3)) list at r list' → r ≡ From first
+      pub spelling_turn : (first : ℕ) → Puts (letter phones index model text (left + 3)) list at r list' → r ≡ Some first
           → Spelling text list₀ list' n (left - 1) first
       spelling_turn first p er = go (letter phones index model text (left + 3)) refl p
         where

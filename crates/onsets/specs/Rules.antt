@@ -1,9 +1,7 @@
 -- The rules of the onset list, each one test that is computed over the whole list.
 -- Assumes nothing.
-use Rattle.std.specs.Prelude.{ℕ, ◌≤◌, ◌<◌, ◌≡◌, refl, Bool, true, ◌&&◌, List, [], leb, length, get_or}
-use Rattle.std.proofs.Common.{leb-true}
-use Rattle.texts.specs.Choice.{both_true}
-use Rattle.texts.specs.Lists.{every, some, every_at}
+use Rattle.std.specs.Prelude.{ℕ, ◌≡◌, refl, Bool, true, ◌&&◌, List, leb, length}
+use Rattle.texts.specs.Lists.{every, some}
 use Rattle.texts.specs.Text.{ascii, low, same, distinct}
 use Rattle.onsets.specs.Onsets.{onsets}
 
@@ -23,9 +21,3 @@ onsets_fit = refl
 pub onsets_differ : distinct onsets ≡ true
 unfolding onsets distinct some same
 onsets_differ = refl
-
--- so an onset that is read has at most 3 bytes
-pub onset_short : (n : ℕ) → n < 63 → length (get_or onsets n []) ≤ 3
-onset_short n h =
-    let k : n < length onsets = rw onset_count h in
-    leb-true (length (get_or onsets n [])) 3 (both_true _ _ (every_at fits onsets [] onsets_fit n k)).0

@@ -2,8 +2,7 @@
 
 #![tactic(auto)]
 
-ghost use Rattle.std.specs.Prelude.{◌≡◌, [], ◌<◌, get_or};
-ghost use Rattle.texts.specs.Text.{same};
+ghost use Rattle.std.specs.Prelude.{◌≡◌, [], ◌<◌, map, get_or};
 ghost use Rattle.onsets.specs.Onsets.{onsets, encoded, is_onset};
 
 // A row: a length byte and three bytes.
@@ -73,34 +72,24 @@ const ONSETS: [[u8; 4]; 63] = [
     *b"\x02bl\0",
 ];
 
+// The table.
+fn rows() -> &'static [[u8; 4]; 63]
+    ensures { result.now ≡ map encoded onsets }
+{
+    &ONSETS
+}
+
 // Row n of the table.
 pub fn onset_row(n: usize) -> [u8; 4]
     requires { n < 63 }
     ensures { result ≡ encoded (get_or onsets n []) }
 {
-    ONSETS[n]
-}
-
-// Whether row n is this text.
-fn is_row(n: usize, text: &[u8]) -> bool
-    requires { n < 63 }
-    ensures { result ≡ same (get_or onsets n []) text.now }
-{
-    let row = onset_row(n);
-    let end = 1 + texts::wide(row[0]);
-    texts::same(&row[1..end], text)
+    rows()[n]
 }
 
 // Whether a text is an onset.
 pub fn is_onset(text: &[u8]) -> bool
     ensures { result ≡ is_onset onsets text.now }
 {
-    let mut n = 0;
-    while n < 63 {
-        if is_row(n, text) {
-            return true;
-        }
-        n += 1;
-    }
-    false
+    rows().iter().any(|row| texts::counted(row) == text)
 }

@@ -1,9 +1,7 @@
 -- The rules of the table of phones, each one test that is computed over the whole table.
 -- Assumes nothing.
-use Rattle.std.specs.Prelude.{ℕ, ◌-◌, ◌<◌, ◌≡◌, refl, Bool, true, ◌&&◌, List, [], ◌++◌, map, leb, eqb, take, drop, replicate}
-use Rattle.std.proofs.Common.{arith}
-use Rattle.std.proofs.Math.ListN.{length, get_or, length-append}
-use Rattle.std.proofs.Math.Seq.{take-append_seam}
+use Rattle.std.specs.Prelude.{ℕ, ◌<◌, ◌≡◌, refl, Bool, true, ◌&&◌, List, [], map, leb, eqb}
+use Rattle.std.proofs.Math.ListN.{length, get_or}
 use Rattle.texts.specs.Lists.{every, some, get_d_map}
 use Rattle.texts.specs.Text.{ascii, low, same, distinct}
 use Rattle.phoneset.specs.Phones.{Phone, phones, no_phone, encoded}
@@ -29,11 +27,3 @@ phones_differ = refl
 module _ (table : List (List ℕ)) (e : table ≡ map encoded phones) (n : ℕ) (h : n < 50) where
   pub row_at : get_or table n [] ≡ encoded (get_or phones n no_phone)
   row_at = rw e (get_d_map encoded phones n no_phone [] (rw phone_count h))
-
-  pub row_fits_lem : get_or (get_or table n []) 0 0 < length (get_or table n [])
-  unfolding encoded
-  row_fits_lem = rw row_at (simp length-append (omega arith))
-
-  pub row_name : take (get_or (get_or table n []) 0 0) (drop 1 (get_or table n [])) ≡ (get_or phones n no_phone).name
-  unfolding encoded
-  row_name = let r = get_or phones n no_phone in rw row_at (take-append_seam r.name (replicate (4 - length r.name) 0 ++ r.features))

@@ -1,8 +1,8 @@
 -- 01, Phones: `split_stress` takes off one last byte that is a stress; the rest is the bare phone. Which bytes are stresses is the sheet's
 -- version's to say (02, S-9): `digits` in crates/versions.
 -- Assumes nothing.
-use Rattle.std.specs.Prelude.{ℕ, ◌-◌, ◌≤◌, ◌≡◌, refl, Bool, true, false, List, eqb, length, get_or, take}
-use Rattle.std.proofs.Common.{arith, sym, ◌∙◌, length-take-le}
+use Rattle.std.specs.Prelude.{ℕ, ◌+◌, ◌-◌, ◌≤◌, ◌≡◌, refl, Bool, true, false, List, [], ◌∷◌, ◌++◌, eqb, length, get_or, take}
+use Rattle.std.proofs.Common.{arith, sym, ◌∙◌, length-append, length-take-le, get_or-append-add}
 use Rattle.std.proofs.Math.ListN.{get_or-eq_default}
 use Rattle.std.proofs.Math.Seq.{take-length}
 use Rattle.texts.specs.Choice.{when◌then◌else◌, cases}
@@ -24,6 +24,13 @@ stress ds x = when is_stressed ds x then last_byte x else 0
 -- the bare phone
 unfoldable pub bare : List ℕ → List ℕ → List ℕ
 bare ds x = when is_stressed ds x then take (length x - 1) x else x
+
+-- a phone parted before its last byte
+pub last_of : (x front : List ℕ) (b : ℕ) → x ≡ front ++ b ∷ [] → last_byte x ≡ b
+unfolding last_byte
+last_of x front b e =
+    let n : length (front ++ b ∷ []) - 1 ≡ length front + 0 = rw length-append (omega arith) in
+    rw (e, n) (get_or-append-add front (b ∷ []) 0 0)
 
 -- the bare phone is the front of the phone
 pub bare_front : (ds x : List ℕ) → bare ds x ≡ take (length (bare ds x)) x

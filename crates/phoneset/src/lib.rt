@@ -2,8 +2,7 @@
 
 #![tactic(auto)]
 
-ghost use Rattle.std.specs.Prelude.{◌≡◌, [], ◌∷◌, map, ◌<◌, length, get_or, take, drop};
-ghost use Rattle.texts.specs.Text.{same};
+ghost use Rattle.std.specs.Prelude.{◌≡◌, [], ◌∷◌, map, ◌<◌, length, get_or, MatchOption};
 ghost use Rattle.phoneset.specs.Phones.{phones, no_phone, encoded, row_of, is_vowel, is_known};
 ghost use Rattle.versions.specs.Versions.{digits};
 ghost use Rattle.phoneset.specs.Stress.{bare, stress};
@@ -64,10 +63,10 @@ const PHONES: [[u8; 13]; 50] = [
 ];
 
 // The table.
-fn rows() -> [[u8; 13]; 50]
-    ensures { result ≡ map encoded phones }
+fn rows() -> &'static [[u8; 13]; 50]
+    ensures { result.now ≡ map encoded phones }
 {
-    PHONES
+    &PHONES
 }
 
 // Row n of the table.
@@ -75,80 +74,50 @@ pub fn phone_row(n: usize) -> [u8; 13]
     requires { n < 50 }
     ensures { result ≡ encoded (get_or phones n no_phone) }
 {
-    let table = rows();
-    table[n]
+    rows()[n]
 }
 
-// Whether a row is named so.
-fn is_named(row: &[u8], phone: &[u8]) -> bool
-    requires { get_or row.now 0 0 < length row.now }
-    ensures { result ≡ same (take (get_or row.now 0 0) (drop 1 row.now)) phone.now }
+// The number of the phone's row, if it has one.
+pub fn row_of(phone: &[u8]) -> Option<usize>
+    ensures { MatchOption result (row_of phone.now ≡ 50) (λ n. (n ≡ row_of phone.now) × (n < 50)) }
 {
-    let end = 1 + texts::wide(row[0]);
-    texts::same(&row[1..end], phone)
+    rows().iter().position(|row| texts::counted(row) == phone)
 }
 
-// The number of the phone's row, 50 where it has none.
-pub fn row_of(phone: &[u8]) -> usize
-    ensures { result ≡ row_of phone.now }
-{
-    let table = rows();
-    let mut n = 0;
-    while n < 50 {
-        if is_named(&table[n], phone) {
-            return n;
-        }
-        n += 1;
-    }
-    50
-}
-
+#[tactic(auto, unfolding(crate::specs::Phones::is_known))]
 pub fn is_known(phone: &[u8]) -> bool
     ensures { result ≡ is_known phone.now }
 {
-    row_of(phone) < 50
+    row_of(phone).is_some()
 }
 
-// Whether two letters are a vowel's name. The first letter is the low byte of the number matched.
+// Whether two letters are a vowel's name.
+#[tactic(auto, using(crate::specs::Laws::Vowels::vowel_two), unfolding(texts::specs::Lists::some))]
 fn is_vowel_pair(a: u8, b: u8) -> bool
     ensures { result ≡ is_vowel (a ∷ b ∷ []) }
 {
-    match (a as u16) + 256 * (b as u16) {
-        0x6161 // aa
-        | 0x6561 // ae
-        | 0x6861 // ah
-        | 0x6F61 // ao
-        | 0x7761 // aw
-        | 0x7861 // ax
-        | 0x7961 // ay
-        | 0x6865 // eh
-        | 0x6C65 // el
-        | 0x6D65 // em
-        | 0x6E65 // en
-        | 0x7265 // er
-        | 0x7965 // ey
-        | 0x6869 // ih
-        | 0x7969 // iy
-        | 0x776F // ow
-        | 0x796F // oy
-        | 0x6875 // uh
-        | 0x7775 => true, // uw
+    match a {
+        b'a' => matches!(b, b'a' | b'e' | b'h' | b'o' | b'w' | b'x' | b'y'),
+        b'e' => matches!(b, b'h' | b'l' | b'm' | b'n' | b'r' | b'y'),
+        b'i' => matches!(b, b'h' | b'y'),
+        b'o' => matches!(b, b'w' | b'y'),
+        b'u' => matches!(b, b'h' | b'w'),
         _ => false,
     }
 }
 
+#[tactic(auto, using(crate::specs::Laws::Vowels::vowel_rest))]
 pub fn is_vowel(phone: &[u8]) -> bool
     ensures { result ≡ is_vowel phone.now }
 {
-    match phone.len() {
-        2 => is_vowel_pair(phone[0], phone[1]),
-        3 => texts::same(phone, b"axr"),
-        _ => false,
+    match phone {
+        &[a, b] => is_vowel_pair(a, b),
+        _ => texts::same(phone, b"axr"),
     }
 }
 
 // How long the bare phone is, and its stress, 0 where it has none.
-#[derive(Drop)]
+#[derive(Clone, Copy, Debug, PartialEq, Eq)]
 pub struct Split {
     pub bare: usize,
     pub stress: u8,
@@ -158,16 +127,14 @@ pub struct Split {
 pub fn split_stress(version: u8, phone: &[u8]) -> Split
     ensures { (result.bare ≡ length (bare (digits version) phone.now)) × (result.stress ≡ stress (digits version) phone.now) }
 {
-    let n = phone.len();
-    if n == 0 {
-        return Split { bare: 0, stress: 0 };
+    match phone.split_last() {
+        Some((&stress, front)) if versions::is_stress(version, stress) => Split {
+            bare: front.len(),
+            stress,
+        },
+        _ => Split {
+            bare: phone.len(),
+            stress: 0,
+        },
     }
-    let last = phone[n - 1];
-    if versions::is_stress(version, last) {
-        return Split {
-            bare: n - 1,
-            stress: last,
-        };
-    }
-    Split { bare: n, stress: 0 }
 }

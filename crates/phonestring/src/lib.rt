@@ -4,17 +4,18 @@
 
 ghost use Rattle.std.specs.Prelude.{◌≡◌, ◌++◌, ◌+◌, ◌≤◌, length, drop};
 ghost use Rattle.std.proofs.Math.Seq.{paste};
-ghost use Rattle.answers.specs.Told.{told_joined};
+ghost use Rattle.answers.specs.Told.{told_count};
 ghost use Rattle.phonestring.specs.PhoneString.{string, phone_string, string_after};
 ghost use Rattle.phonestring.specs.Laws.Turns.{gap as gap_of};
 
-use answers::{Joined, Refusal};
+use answers::Refusal;
 
 // The blank before the phone behind item p takes no place behind item 0, else one byte.
+#[tactic(auto, unfolding(crate::specs::Laws::Turns::gap))]
 fn gap(p: u16) -> usize
     ensures { result ≡ length (gap_of p) }
 {
-    if p == 0 { 0 } else { 1 }
+    usize::from(p != 0)
 }
 
 // How many bytes the phone string has.
@@ -23,32 +24,30 @@ fn count(sheet: &[u8]) -> usize
 {
     let mut p = 0;
     let mut n = 0;
-    let mut left = utterance::used(sheet);
-    while 0 < left {
+    for _ in 0..utterance::used(sheet) {
         let q = utterance::follow(sheet, p);
         if q == 0 {
             return n;
         }
         n += gap(p) + utterance::text(sheet, q).len();
         p = q;
-        left -= 1;
     }
     n
 }
 
 // The text of the phone behind item p, with the blank before it, from byte k on; and where it ends.
+#[tactic(auto, unfolding(crate::specs::Laws::Turns::gap))]
 fn put(out: &mut [u8], k: usize, p: u16, text: &[u8]) -> usize
     requires { k + length (gap_of p ++ text.now) ≤ length out.old }
     ensures value { result ≡ k + length (gap_of p ++ text.now) }
     ensures out_after { out.new ≡ paste out.old k (gap_of p ++ text.now) (length (gap_of p ++ text.now)) }
 {
-    if p == 0 {
-        records::copy_in(out, k, text);
-        return k + text.len();
+    if p != 0 {
+        out[k] = 32;
     }
-    out[k] = 32;
-    records::copy_in(out, k + 1, text);
-    k + 1 + text.len()
+    let start = k + gap(p);
+    records::copy_in(out, start, text);
+    start + text.len()
 }
 
 // The phone string at the front of out.
@@ -58,30 +57,29 @@ fn write(sheet: &[u8], out: &mut [u8])
 {
     let mut p = 0;
     let mut k = 0;
-    let mut left = utterance::used(sheet);
-    while 0 < left {
+    for _ in 0..utterance::used(sheet) {
         let q = utterance::follow(sheet, p);
         if q == 0 {
             return;
         }
         k = put(out, k, p, utterance::text(sheet, q));
         p = q;
-        left -= 1;
     }
 }
 
 // The texts of a sheet's phones in order, with one blank between; how many bytes these are.
-pub fn phone_string(sheet: &[u8], out: &mut [u8]) -> Joined
-    ensures result_value { told_joined result ≡ phone_string sheet.now out.old }
+#[tactic(auto, unfolding(crate::specs::PhoneString::phone_string, crate::specs::PhoneString::string_after))]
+pub fn phone_string(sheet: &[u8], out: &mut [u8]) -> Result<usize, Refusal>
+    ensures result_value { told_count result ≡ phone_string sheet.now out.old }
     ensures out_after { out.new ≡ string_after sheet.now out.old }
 {
     if !sound_sheet::is_sound(sheet) {
-        return Joined::Refused(Refusal::Unsound);
+        return Err(Refusal::Unsound);
     }
     let n = count(sheet);
     if out.len() < n {
-        return Joined::Refused(Refusal::Short);
+        return Err(Refusal::Short);
     }
     write(sheet, out);
-    Joined::Bytes(n)
+    Ok(n)
 }

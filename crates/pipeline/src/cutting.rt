@@ -18,6 +18,7 @@ fn bare_phone(version: u8, phone: &[u8]) -> &[u8]
 }
 
 // The bare phones of a list as cells at the front of dst.
+#[tactic(auto, using(pipeline_spec::proofs::Laws::BareCells::bare_turns))]
 fn put_bare(version: u8, dst: &mut [u8], phones: &[u8])
     requires { 16 * (length phones.now / 16) ≤ length dst.old }
     ensures { dst.new ≡ cells_of (map (bare_of (digits version)) (phones_of phones.now)) ++ drop (16 * (length phones.now / 16)) dst.old }
@@ -28,7 +29,7 @@ fn put_bare(version: u8, dst: &mut [u8], phones: &[u8])
 }
 
 // The stress behind a phone: its own, else the one before it.
-#[tactic(auto, using(pipeline_spec::proofs::Laws::Cuts::stress_own, pipeline_spec::proofs::Laws::Cuts::stress_kept))]
+#[tactic(auto, using(pipeline_spec::proofs::Laws::Cuts::stress_split))]
 fn stressed(version: u8, before: u8, phone: &[u8]) -> u8
     ensures { result ≡ stressed_of version before phone.now }
 {
@@ -51,6 +52,7 @@ fn carried(mark: u8, stress: u8) -> u8
 }
 
 // The cuts of phones at their marks, at the front of dst.
+#[tactic(auto, using(crate::proofs::Cuts::cut_turns))]
 fn put_cuts(version: u8, dst: &mut [u8], phones: &[u8], marks: &[u8])
     requires { (length phones.now / 16 ≤ length dst.old) × (length phones.now / 16 ≤ length marks.now) }
     ensures { dst.new ≡ cuts_of version 48 marks.now (phones_of phones.now) ++ drop (length phones.now / 16) dst.old }
@@ -64,12 +66,13 @@ fn put_cuts(version: u8, dst: &mut [u8], phones: &[u8], marks: &[u8])
 }
 
 // The bare phones of a word and its cuts, each at the front of its room.
+#[tactic(auto, using(pipeline_spec::proofs::Laws::BareCells::front_bares, pipeline_spec::proofs::Laws::Cuts::cuts_own))]
 pub fn prepare(version: u8, phones: &[u8], bare: &mut [u8], cuts: &mut [u8])
     requires { (length phones.now ≤ 1536) × (length bare.old ≡ 1536) × (length cuts.old ≡ 96) }
     ensures bare_after { bare.new ≡ cells_of (map (bare_of (digits version)) (phones_of phones.now)) ++ drop (16 * (length phones.now / 16)) bare.old }
     ensures cuts_after { cuts.new ≡ cuts_of version 48 (marks_of onsets false (map (bare_of (digits version)) (phones_of phones.now))) (phones_of phones.now) ++ drop (length phones.now / 16) cuts.old }
 {
-    let mut marks = [0u8; 96];
+    let mut marks = [0; 96];
     put_bare(version, bare, phones);
     syllabify::mark(&bare[..16 * (phones.len() / 16)], &mut marks);
     put_cuts(version, cuts, phones, &marks);

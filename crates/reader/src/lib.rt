@@ -29,10 +29,7 @@ impl<'a> Reader<'a> {
     pub fn moved(self, pos: usize) -> Reader<'a>
         ensures { (result.bytes ≡ self.entry.bytes) × (result.pos ≡ pos) }
     {
-        Reader {
-            bytes: self.bytes,
-            pos,
-        }
+        Reader { pos, ..self }
     }
 
     #[tactic(auto, unfolding(crate::specs::Reader::byte_at))]

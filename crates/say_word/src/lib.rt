@@ -8,6 +8,7 @@ ghost use Rattle.pipeline_spec.specs.Pronounced.{tables};
 ghost use Rattle.say_word.specs.SayWord.{say_word, sheet_after};
 
 use answers::Refusal;
+use pipeline::Sections;
 
 pub fn say_word(
     phones: &[u8],
@@ -24,28 +25,24 @@ pub fn say_word(
     ensures result_value { told_said result ≡ say_word (tables phones.now index.now dat.now sounds.now starts.now model.now) store.now sheet.old word.now tag.now }
     ensures sheet_after { sheet.new ≡ sheet_after (tables phones.now index.now dat.now sounds.now starts.now model.now) store.now sheet.old word.now tag.now }
 {
-    let mut places = [0u16; 256];
-    let mut spots = [0u16; 256];
-    if !pipeline::read_sections(
+    let mut places = [0; 256];
+    let mut spots = [0; 256];
+    let sections = Sections::read(
         phones,
         index,
+        dat,
+        &mut places,
         sounds,
         starts,
         model,
-        &mut places,
         &mut spots,
-    ) {
-        return Err(Refusal::Section);
-    }
+    )
+    .ok_or(Refusal::Section)?;
     if !(sound_store::is_sound(store) && sound_sheet::is_sound(sheet)) {
         return Err(Refusal::Unsound);
     }
     if !(texts::is_word(word) && texts::is_word(tag)) {
         return Err(Refusal::Text);
     }
-    let mut room = [0u8; 1536];
-    pipeline::say(
-        phones, &places, index, dat, sounds, &spots, starts, model, store, sheet, word, tag,
-        &mut room,
-    )
+    sections.say(store, sheet, word, tag)
 }

@@ -9,7 +9,12 @@ ghost use Rattle.texts.specs.Text.{folded};
 ghost use Rattle.records.specs.Records.{records};
 ghost use Rattle.cells.specs.Cells.{phones_of};
 ghost use Rattle.slots_spec.specs.Slot.{slot as slot_of, entry_of, is_folded, is_slot};
+ghost use Rattle.slots.specs.Given.{given};
 ghost use Rattle.slots_spec.specs.Laws.Parts.{is_stored, is_key, is_blank, used_cells, is_tidy};
+
+mod entry;
+
+pub use entry::NewEntry;
 
 // A word into dst from k on, folded.
 pub fn put_folded(dst: &mut [u8], k: usize, word: &[u8])
@@ -22,21 +27,21 @@ pub fn put_folded(dst: &mut [u8], k: usize, word: &[u8])
 }
 
 // An entry as a slot that nothing follows.
-pub fn write(slot: &mut [u8], tag: u8, word: &[u8], phones: &[u8], exact: bool)
-    requires { (length slot.old ≡ 512) × (length word.now ≤ 47) × (length phones.now / 16 ≤ 24) }
-    ensures { slot.new ≡ slot_of 0 (record { tag = tag; word = word.now; phones = phones_of phones.now; exact = exact }) }
+pub fn write(slot: &mut [u8], entry: &NewEntry)
+    requires { length slot.old ≡ 512 }
+    ensures { slot.new ≡ slot_of 0 (given entry.now) }
 {
-    let n = word.len();
-    let count = phones.len() / 16;
+    let n = entry.word.len();
+    let count = entry.phones.len() / 16;
     records::put_u16(slot, 0, 0);
-    slot[2] = tag;
+    slot[2] = entry.tag;
     slot[3] = n as u8;
-    records::copy_in(slot, 4, word);
+    records::copy_in(slot, 4, entry.word);
     records::clear(slot, 4 + n, 47 - n);
     slot[51] = count as u8;
-    slot[52] = u8::from(exact);
+    slot[52] = u8::from(entry.exact);
     records::clear(slot, 53, 11);
-    cells::put_phones(slot, 4, phones);
+    cells::put_phones(slot, 4, entry.phones);
     records::clear(slot, 64 + 16 * count, 448 - 16 * count);
 }
 

@@ -2,7 +2,8 @@
 ghost use Rattle.std.specs.Prelude.{◌≡◌, false, ◌*◌, ◌<◌};
 ghost use Rattle.records.specs.Records.{record_at};
 ghost use Rattle.slots_spec.specs.Slot.{entry_of};
-ghost use Rattle.store_spec.specs.Store.{next as next_of, used as used_of, is_store_length, is_wanted};
+ghost use Rattle.store_spec.specs.Store.{next as next_of, used as used_of, is_store_length};
+ghost use Rattle.store.specs.Wanting.{wants};
 ghost use Rattle.store_spec.specs.Laws.Exact.{has_exact};
 
 // The number of the slot behind slot n; behind slot 0 stands the first.
@@ -47,12 +48,21 @@ pub fn has_exact(store: &[u8], n: usize) -> bool
     (1..n + 1).any(|k| records::byte_at(store, 512 * k + 52) == 1)
 }
 
+// What an entry is wanted by: whether it is exact, its word, and its tag, where "0" may be any tag.
+#[derive(Clone, Copy)]
+pub struct Wanted<'a> {
+    pub exact: bool,
+    pub any: bool,
+    pub word: &'a [u8],
+    pub tag: u8,
+}
+
 // Whether the entry in a slot is exact or not, as wanted, and has this word, and a tag that agrees.
 #[tactic(auto, using(texts::specs::Laws::Library::same_pointwise), unfolding(store_spec::specs::Store::is_wanted))]
-pub fn is_wanted(slot: &[u8], exact: bool, any: bool, word: &[u8], tag: u8) -> bool
-    ensures { result ≡ is_wanted exact any word.now tag (entry_of slot.now) }
+pub fn is_wanted(slot: &[u8], wanted: &Wanted) -> bool
+    ensures { result ≡ wants wanted.now (entry_of slot.now) }
 {
-    slots::is_exact(slot) == exact
-        && slots::word(slot) == word
-        && texts::agree(any, slots::tag(slot), tag)
+    slots::is_exact(slot) == wanted.exact
+        && slots::word(slot) == wanted.word
+        && texts::agree(wanted.any, slots::tag(slot), wanted.tag)
 }

@@ -7,4 +7,4 @@ mod chain;
 mod fields;
 
 pub use chain::{add, seek};
-pub use fields::{has_exact, is_store_length, is_wanted, next, slot, used};
+pub use fields::{Wanted, has_exact, is_store_length, is_wanted, next, slot, used};

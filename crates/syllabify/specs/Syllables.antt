@@ -1,6 +1,6 @@
 -- 01, Syllables: the marks after the phones of a list, for any list of onsets.
 -- Assumes nothing.
-use Rattle.std.specs.Prelude.{ℕ, ◌+◌, ◌≤◌, ◌≡◌, Bool, true, false, not, ◌||◌, List, [], ◌∷◌, ◌++◌, leb, eqb, length, take}
+use Rattle.std.specs.Prelude.{ℕ, ◌+◌, ◌≤◌, ◌<◌, ◌≡◌, Option, None, Some, Bool, true, false, not, ◌||◌, List, [], ◌∷◌, ◌++◌, leb, eqb, length, take}
 use Rattle.texts.specs.Choice.{when◌then◌else◌, bit}
 use Rattle.texts.specs.Lists.{place}
 use Rattle.texts.specs.Text.{bytes, same}
@@ -65,3 +65,8 @@ vowels (x ∷ xs) = bit (is_vowel x) + vowels xs
 pub record Joined (text out : List ℕ) (n : ℕ) : Type 0 where
   pub inside : n ≤ length out
   pub front : take n out ≡ text
+
+-- the place of the first element at which a test passes, or that there is none
+abbrev pub IsFirst : (List ℕ → Bool) → List (List ℕ) → Option ℕ → Type 0
+IsFirst f l None = length l ≤ place f l
+IsFirst f l (Some i) = (i ≡ place f l) × (i < length l)

@@ -4,28 +4,26 @@
 
 ghost use Rattle.std.specs.Prelude.{◌≡◌, false, ◌||◌, [], ◌++◌, ◌/◌, ◌<◌, ◌≤◌, length, get_or, take, drop};
 ghost use Rattle.texts.specs.Choice.{when◌then◌else◌, bit};
-ghost use Rattle.texts.specs.Lists.{place};
 ghost use Rattle.cells.specs.Cells.{phones_of};
 ghost use Rattle.phoneset.specs.Phones.{is_vowel};
 ghost use Rattle.onsets.specs.Onsets.{onsets, is_onset};
 ghost use Rattle.answers.specs.Told.{told_count};
-ghost use Rattle.syllabify.specs.Syllables.{joined as join, opens, cut, marks as marks_of, Joined};
+ghost use Rattle.syllabify.specs.Syllables.{joined as join, opens, cut, marks as marks_of, Joined, IsFirst};
 ghost use Rattle.syllabify.specs.Call.{syllabify as answer, syllabified};
 
 use answers::Refusal;
 
-// The place of the first vowel of a list, its count where there is none.
+// The place of the first vowel of a list.
 #[tactic(auto, using(crate::proofs::Syllables::vowels_ahead))]
-fn next_vowel(rest: &[u8]) -> usize
-    ensures { result ≡ place is_vowel (phones_of rest.now) }
+fn next_vowel(rest: &[u8]) -> Option<usize>
+    ensures { IsFirst is_vowel (phones_of rest.now) result }
 {
-    let n = rest.len() / 16;
-    for i in 0..n {
+    for i in 0..rest.len() / 16 {
         if phoneset::is_vowel(cells::phone(rest, i)) {
-            return i;
+            return Some(i);
         }
     }
-    n
+    None
 }
 
 // The first n phones of a list joined at the front of out; how many bytes that is.
@@ -72,12 +70,13 @@ fn opens_before(rest: &[u8], v: usize) -> bool
 fn cut_before(rest: &[u8], seen: bool) -> bool
     ensures { result ≡ cut onsets seen (phones_of rest.now) }
 {
-    let n = rest.len() / 16;
-    if n == 0 || texts::same(cells::phone(rest, 0), b"pau") {
+    if rest.len() < 16 || texts::same(cells::phone(rest, 0), b"pau") {
         return true;
     }
-    let v = next_vowel(rest);
-    v < n && seen && opens_before(rest, v)
+    match next_vowel(rest) {
+        Some(v) => seen && opens_before(rest, v),
+        None => false,
+    }
 }
 
 // The marks of a list of phones.

@@ -1,7 +1,7 @@
 // Byte strings: case folding, blanks, equality, bytewise order, and what may be a word or a tag.
 #![tactic(auto)]
 
-ghost use Rattle.std.specs.Prelude.{◌≡◌, ◌&&◌, ◌<◌, get_or, leb};
+ghost use Rattle.std.specs.Prelude.{◌≡◌, ◌&&◌, ◌<◌, get_or, take, drop, leb};
 ghost use Rattle.texts.specs.Choice.{bit};
 ghost use Rattle.texts.specs.Lists.{place};
 ghost use Rattle.texts.specs.Text.{folded, blank, is, same as equal, smaller as before, ascii, is_word, agree as agree_of};
@@ -122,6 +122,16 @@ pub fn agree(any: bool, a: u8, b: u8) -> bool
     ensures { result ≡ agree_of any a b }
 {
     a == b || (any && (a == 48 || b == 48))
+}
+
+// The text behind its length byte, as much of it as the row has.
+pub fn counted(row: &[u8]) -> &[u8]
+    ensures { result.now ≡ take (get_or row.now 0 0) (drop 1 row.now) }
+{
+    let Some((&n, rest)) = row.split_first() else {
+        return row;
+    };
+    &rest[..rest.len().min(usize::from(n))]
 }
 
 // The bytes of a string taken into a number, by which most strings are told apart.

@@ -22,17 +22,16 @@ pub fn walk(model: &[u8], features: &[u8; 8], start: u16, phones: usize) -> Opti
     requires { length model.now % 6 ≡ 0 }
     ensures { result ≡ walk_from model.now features.now phones (length model.now / 6) start }
 {
-    let mut n = start;
+    let mut at = 6 * usize::from(start);
     for _ in 0..model.len() / 6 {
-        let at = 6 * usize::from(n);
-        let node = model.get(at..at + 6)?;
-        let value = node[1];
-        let link = match node[0] {
+        let first = *model.get(at)?;
+        let value = model[at + 1];
+        let link = match first {
             255 => return (usize::from(value) < phones).then_some(value),
-            first @ 0..=7 if features[usize::from(first)] == value => 2,
-            _ => 4,
+            0..=7 if features[usize::from(first)] == value => at + 2,
+            _ => at + 4,
         };
-        n = records::u16_in(node, link);
+        at = 6 * usize::from(records::u16_in(model, link));
     }
     None
 }

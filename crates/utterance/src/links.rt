@@ -11,11 +11,11 @@ use items::{PHONE, SYLLABLE, first, kind, last, next, parent, stress};
 fn after_syllable(sheet: &[u8], i: u16) -> u16
     ensures { result ≡ after_syllable (at sheet.now) i }
 {
-    let n = next(item(sheet, i));
-    if n != 0 {
-        return n;
+    let syllable = item(sheet, i);
+    match next(syllable) {
+        0 => next(item(sheet, parent(syllable))),
+        n => n,
     }
-    next(item(sheet, parent(item(sheet, i))))
 }
 
 // The item behind a phone.
@@ -24,11 +24,11 @@ fn after_phone(sheet: &[u8], i: u16) -> u16
     requires { i < items sheet.now }
     ensures { result ≡ after_phone (at sheet.now) i }
 {
-    let n = next(inside(sheet, i));
-    if n != 0 {
-        return n;
+    let phone = inside(sheet, i);
+    match next(phone) {
+        0 => after_syllable(sheet, parent(phone)),
+        n => n,
     }
-    after_syllable(sheet, parent(inside(sheet, i)))
 }
 
 // The item behind the children of item i.
@@ -50,11 +50,10 @@ pub fn after(sheet: &[u8], i: u16) -> u16
     requires { i < items sheet.now }
     ensures { result ≡ after_of (at sheet.now) i }
 {
-    let f = first(inside(sheet, i));
-    if f != 0 {
-        return f;
+    match first(inside(sheet, i)) {
+        0 => beyond(sheet, i),
+        f => f,
     }
-    beyond(sheet, i)
 }
 
 // Whether an item's child fields agree with its first child.
@@ -64,12 +63,13 @@ pub fn is_parent(sheet: &[u8], i: u16) -> bool
     ensures { result ≡ is_parent (at sheet.now) i }
 {
     let own = inside(sheet, i);
-    let f = first(own);
-    if f == 0 {
-        return last(own) == 0;
+    match first(own) {
+        0 => last(own) == 0,
+        f => {
+            let child = item(sheet, f);
+            parent(child) == i && u16::from(kind(child)) == u16::from(kind(own)) + 1
+        }
     }
-    let child = item(sheet, f);
-    parent(child) == i && u16::from(kind(child)) == u16::from(kind(own)) + 1
 }
 
 // Whether an item agrees with its next sibling, or with its parent where it is the last.
@@ -79,12 +79,13 @@ pub fn is_sibling(sheet: &[u8], i: u16) -> bool
     ensures { result ≡ is_sibling (at sheet.now) i }
 {
     let own = inside(sheet, i);
-    let n = next(own);
-    if n == 0 {
-        return last(item(sheet, parent(own))) == i;
+    match next(own) {
+        0 => last(item(sheet, parent(own))) == i,
+        n => {
+            let sibling = item(sheet, n);
+            parent(sibling) == parent(own) && kind(sibling) == kind(own)
+        }
     }
-    let sibling = item(sheet, n);
-    parent(sibling) == parent(own) && kind(sibling) == kind(own)
 }
 
 // Whether an item has a stress of the sheet's version, and a phone, if it is a syllable.
@@ -94,8 +95,6 @@ pub fn is_sung(sheet: &[u8], i: u16) -> bool
     ensures { result ≡ is_sung (at sheet.now) (version sheet.now) i }
 {
     let own = inside(sheet, i);
-    if kind(own) != SYLLABLE {
-        return true;
-    }
-    versions::is_stress(stress(inside(sheet, 0)), stress(own)) && first(own) != 0
+    kind(own) != SYLLABLE
+        || (versions::is_stress(stress(inside(sheet, 0)), stress(own)) && first(own) != 0)
 }

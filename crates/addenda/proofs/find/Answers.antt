@@ -1,45 +1,31 @@
--- `addenda::find` meets its contract: a word ruled out has no row; else no row passed is meant, so the rows left decide. Assumes nothing.
-use Rattle.addenda.specs.Rules.{addenda_count}
+-- `addenda::find` meets its contract: a word ruled out has no row; else the first row that is meant is the place. Assumes nothing.
+use Rattle.std.proofs.Common.{◌≡◌, rules, tests, ◌∙◌, map}
+use Rattle.std.proofs.lemmas.List.{length-map}
+use Rattle.std.proofs.lemmas.Iterator.{YieldsList-from_slice}
+use Rattle.std.proofs.lemmas.Iterator.Search.{position_from_yields_List}
+use Rattle.std.specs.List.{position}
+use Rattle.texts.specs.Lists.{place}
+use Rattle.texts.specs.Laws.Library.{position_place, place_map}
+use Rattle.addenda.specs.Addenda.{addenda, encoded}
 use Rattle.addenda.specs.Find.{is_meant}
-use Rattle.addenda.specs.Laws.Rows.{row_meant}
+use Rattle.addenda.specs.Rules.{addenda_count}
+use Rattle.addenda.specs.Laws.Rows.{is_meant_by, encoded_meant}
 use Rattle.addenda.specs.Laws.Starts.{no_start}
-use Rattle.addenda.specs.Addenda.{addenda, no_addendum}
-use Rattle.texts.specs.Lists.{place, place_turn, place_stop, place_end}
-use lib.ListN.{drop}
-use mathlib.Core.Path.{◌≡◌, sym, ◌∙◌}
-use native.Mathlib.Omega.{arith}
-use borrow.Author.Tests.{not-true}
-use Prim.Native.Nat.{◌≤◌, ◌<◌, ◌-◌, ◌+◌}
 use Rattle.addenda.proofs.find.Goals as goal
 
 pub returns-then-not-may_be_row : goal.returns-then-not-may_be_row
 returns-then-not-may_be_row c =
     let a = c.args in
-    let h = c.may_be_row.ensures c.if-not-may_be_row.true in
-    sym (no_start a.word.now a.tag (rw c.byte_at.ensures at h))
-
-pub returns-then-is_meant : goal.returns-then-is_meant
-returns-then-is_meant c =
-    let a = c.args in
-    let t = c.rows-table in
-    let n = c.loop-n.n in
-    let h : n < 42 = omega arith in
-    let meant = sym (row_meant t.result t.ensures n h a.word.now a.tag) ∙ sym c.is_meant.ensures in
-    let e = place_stop (is_meant a.word.now a.tag) addenda n no_addendum (rw addenda_count h) (meant ∙ c.if-is_meant.true) in
-    omega arith
-
-pub loop-n-preserved : goal.loop-n-preserved
-loop-n-preserved c =
-    let a = c.args in
-    let t = c.rows-table in
-    let n = c.loop-n.n in
-    let h : n < 42 = omega arith in
-    let meant = sym (row_meant t.result t.ensures n h a.word.now a.tag) ∙ sym c.is_meant.ensures in
-    let e = place_turn (is_meant a.word.now a.tag) addenda n no_addendum (rw addenda_count h) (meant ∙ c.if-is_meant.false) in
-    (omega arith, omega arith)
+    let h = c.may_be_row.ensures (cc) in
+    no_start a.word.now a.tag (rw c.byte_at.ensures at h)
 
 pub returns : goal.returns
 returns c =
     let a = c.args in
-    let e = place_end (is_meant a.word.now a.tag) addenda c.loop-n.n (rw addenda_count (omega arith)) in
-    omega arith
+    let test = is_meant_by a.word.now a.tag in
+    let m = place_map test encoded (is_meant a.word.now a.tag) (encoded_meant a.word.now a.tag) addenda in
+    let e : c.position.result ≡ position test (map encoded addenda) =
+    position_from_yields_List test _ _ c.position.result c.position.ensures.ran
+    (YieldsList-from_slice _ cc) (λ x b q k. search (rules, tests)) in
+    position_place test (map encoded addenda) c.position.result
+    (place (is_meant a.word.now a.tag) addenda) 42 e m (length-map addenda encoded ∙ addenda_count)

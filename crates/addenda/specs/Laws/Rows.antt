@@ -96,14 +96,17 @@ module _ (r : Addendum) where
 unfoldable pub is_meant_by : List ℕ → ℕ → List ℕ → Bool
 is_meant_by word tag row = same (text (drop 1 row)) word && agree true (get_or row 0 0) tag
 
+pub encoded_meant : (word : List ℕ) (tag : ℕ) (r : Addendum) → is_meant_by word tag (encoded r) ≡ is_meant word tag r
+unfolding is_meant_by is_meant
+encoded_meant word tag r = rw (row_word r, row_tag r)
+
 -- what the code reads of row n of its table
 module _ (table : List (List ℕ)) (e : table ≡ map encoded addenda) (n : ℕ) (h : n < 42) where
   pub row_at : get_or table n [] ≡ encoded (get_or addenda n no_addendum)
   row_at = rw e (get_d_map encoded addenda n no_addendum [] (rw addenda_count h))
 
   pub row_meant : (word : List ℕ) (tag : ℕ) → is_meant_by word tag (get_or table n []) ≡ is_meant word tag (get_or addenda n no_addendum)
-  unfolding is_meant_by is_meant
-  row_meant word tag = let r = get_or addenda n no_addendum in rw (row_at, row_word r, row_tag r)
+  row_meant word tag = rw row_at (encoded_meant word tag (get_or addenda n no_addendum))
 
 -- row n of the table fits
 module _ (n : ℕ) (h : n < 42) where

@@ -1,11 +1,13 @@
 -- A word whose length and first byte are no row's is no row's.
 -- Assumes nothing.
 use Rattle.std.specs.Prelude.{ℕ, ◌≡◌, refl, Bool, true, false, List, [], ◌∷◌, eqb, length, get_or}
-use Rattle.std.proofs.Common.{sym, ap, ◌∙◌, ne_eqb}
+use Rattle.std.proofs.Common.{arith, inl, inr, sym, ap, ◌∙◌, ne_eqb, eqb-true}
+use Rattle.std.specs.Char.{IsAsciiAlphanumeric}
 use Rattle.std.proofs.lemmas.Bool.{eqb-false}
 use Rattle.texts.specs.Choice.{when◌then◌else◌, cases, both_true, never}
 use Rattle.texts.specs.Lists.{every, some, place}
-use Rattle.texts.specs.Text.{ne_same}
+use Rattle.texts.specs.Text.{bytes, ne_same}
+use Rattle.texts.specs.Laws.Keys.{range_out}
 use Rattle.addenda.specs.Addenda.{Addendum, addenda}
 use Rattle.addenda.specs.Find.{is_meant}
 use Rattle.addenda.specs.Rules.{addenda_count}
@@ -56,3 +58,32 @@ no_length n b (r ∷ rs) h o =
 pub other_length : (n b : ℕ) → is_length n ≡ false → is_start n b ≡ false
 unfolding is_start every some addenda
 other_length n b o = no_length n b addenda refl o
+
+-- the first bytes of the words longer than one
+abbrev firsts : ℕ → List ℕ
+firsts n =
+    when eqb n 2 then bytes "'iit_"
+    else when eqb n 4 then bytes "s"
+    else when eqb n 5 then bytes "ye"
+    else when eqb n 6 then bytes "dh"
+    else []
+
+pub start_listed : (n b : ℕ) → (n ≡ 1 → ⊥) → is_start n b ≡ some (eqb b) (firsts n)
+unfolding is_start some firsts_of addenda
+start_listed n b one =
+    cases (eqb n 2)
+    (λ e. rw (eqb-true n 2 e))
+    (λ e₂. cases (eqb n 4)
+    (λ e. rw (eqb-true n 4 e))
+    (λ e₄. cases (eqb n 5)
+    (λ e. rw (eqb-true n 5 e))
+    (λ e₅. cases (eqb n 6)
+    (λ e. rw (eqb-true n 6 e))
+    (λ e₆. let o = other_length n b (rw (ne_eqb n 1 one, e₂, e₄, e₅, e₆)) in rw (e₂, e₄, e₅, e₆) o))))
+
+-- none is a letter or a digit
+pub sign_out : (b : ℕ) → IsAsciiAlphanumeric b → is_start 1 b ≡ false
+unfolding is_start every firsts_of addenda
+sign_out b (inl (inl h)) = range_out b 48 58 (firsts_of 1 addenda) refl h.0 (omega arith)
+sign_out b (inl (inr h)) = range_out b 65 91 (firsts_of 1 addenda) refl h.0 (omega arith)
+sign_out b (inr h) = range_out b 97 123 (firsts_of 1 addenda) refl h.0 (omega arith)

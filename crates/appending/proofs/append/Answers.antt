@@ -6,35 +6,6 @@ use Rattle.cells.specs.Cells.{phones_of, length_phones_of}
 use Rattle.appending.specs.Laws.Putting.{word_tied}
 use Rattle.appending.proofs.append.Goals as goal
 
-pub overflow_add-n : goal.overflow_add-n
-overflow_add-n c = omega (arith, c.used-n.ensures)
-
-pub overflow_cast-end : goal.overflow_cast-end
-overflow_cast-end c = omega (arith, c.size.ensures)
-
-pub overflow_add-end : goal.overflow_add-end
-overflow_add-end c = omega (arith, c.used.ensures, c.size.ensures)
-
-pub overflow_add-n-2 : goal.overflow_add-n-2
-overflow_add-n-2 c = omega (arith, c.used-n.ensures)
-
-pub tie-requires : goal.tie-requires
-tie-requires c =
-    let l = c.put_word.auto.sheet in
-    (omega (arith, c.last-w.ensures), omega (arith, c.prev-q.ensures))
-
-pub shape_of-sheet : goal.shape_of-sheet
-shape_of-sheet c = c.tie.auto.sheet ∙ c.put_word.auto.sheet
-
-pub size-requires : goal.size-requires
-size-requires c = (c.requires.word_len_bound.1, c.requires.word_len_bound.2)
-
-pub put_word-requires : goal.put_word-requires
-put_word-requires c =
-    let u = c.used-n.ensures in
-    let r = c.requires.word_len_bound in
-    (r.0, r.1, r.2, omega arith, omega arith)
-
 pub returns : goal.returns
 returns c =
     let a = c.args in

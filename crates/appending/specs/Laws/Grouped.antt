@@ -1,12 +1,15 @@
 -- How a word in bytes falls into syllables: the first takes the phones up to the first cut, and the rest is grouped alike.
 -- Assumes nothing.
-use Rattle.std.specs.Prelude.{ℕ, zero, suc, ◌+◌, ◌-◌, ◌≤◌, ◌<◌, ◌≡◌, ◌≢◌, Bool, true, false, not, List, [], ◌∷◌, eqb, length, get_or, take, drop}
-use Rattle.std.proofs.Common.{not-suc-le-zero, le_of_suc-le-suc, ◌∙◌, eqb-true, eq-eqb, ne_eqb}
+use Rattle.std.specs.Prelude.{ℕ, zero, suc, ◌+◌, ◌-◌, ◌≤◌, ◌<◌, ◌≡◌, Bool, true, false, not, List, [], ◌∷◌, ◌++◌, eqb, length, get_or, take, drop, min}
+use Rattle.std.specs.List.{AllWithin, IsFirstMatchOrLen}
+use Rattle.std.proofs.Common.{not-suc-le-zero, le_of_suc-le-suc, sym, ◌∙◌, eqb-true, ne_eqb}
 use native.Mathlib.Omega.{arith}
 use Rattle.std.proofs.Math.ListN.{length-drop}
-use Rattle.std.proofs.Math.Seq.{get_or-drop, drop-drop}
+use Rattle.std.proofs.Math.Seq.{get_or-drop, drop-drop, drop-append_seam}
+use Rattle.std.proofs.Math.Decide.{dec_le}
+use Rattle.std.proofs.lemmas.Bool.{not-false}
 use Rattle.texts.specs.Choice.{cases}
-use Rattle.texts.specs.Lists.{place, place_turn, place_stop, place_end}
+use Rattle.texts.specs.Lists.{place}
 use Rattle.utterance_spec.specs.Cuts.{grouped, Ended}
 
 -- a cut ends a syllable
@@ -40,18 +43,46 @@ ended_from ms i e h =
     let k : i + (length (drop i ms) - 1) ≡ length ms - 1 = omega arith in
     rw (get_or-drop i ms (length (drop i ms) - 1) 0, k) (e (omega arith))
 
--- seeking the end of a syllable: a phone that ends none, one that does, and no more phones
-pub span_turn : (ms : List ℕ) (i : ℕ) → i < length ms → get_or ms i 0 ≡ 0 → span (drop i ms) ≡ suc (span (drop (i + 1) ms))
-unfolding span ends
-span_turn ms i h z = let e = place_turn ends ms i 0 h (rw (eq-eqb (get_or ms i 0) 0 z)) in omega arith
+-- the bytes up to the first that passes, with it, as `split_inclusive` cuts them off
+first_place : (f : ℕ → Bool) (ms : List ℕ) (j : ℕ) → j < length ms → AllWithin (λ m. f m ≡ false) ms 0 j → f (get_or ms j 0) ≡ true → place f ms ≡ j
+unfolding place
+first_place f [] j h n t = absurd (not-suc-le-zero h)
+first_place f (m ∷ ms) zero h n t = rw t
+first_place f (m ∷ ms) (suc j) h n t =
+    rw (n 0 0 (omega arith) (omega arith), first_place f ms j (le_of_suc-le-suc h) (λ k d a b. n (suc k) d (omega arith) (omega arith)) t)
 
-pub span_stop : (ms : List ℕ) (i : ℕ) → i < length ms → get_or ms i 0 ≢ 0 → span (drop i ms) ≡ 1
+part_span : (ms : List ℕ) (n j : ℕ) → Ended ms → n ≡ min (j + 1) (length ms) → IsFirstMatchOrLen ends ms j → 0 < length ms → n ≡ span ms
 unfolding span ends
-span_stop ms i h n = let e = place_stop ends ms i 0 h (rw (ne_eqb (get_or ms i 0) 0 n)) in omega arith
+part_span ms n j e l f h =
+    let k : ℕ = length ms - 1 in
+    let inside : Dec (j ≤ k) → n ≡ place (λ m. not (eqb m 0)) ms + 1 = λ d. elim d [
+      | yes b ↦ let p = first_place ends ms j (omega arith) f.0 (f.1 (omega arith) 0) in omega arith
+      | no b ↦ absurd (e h (eqb-true (get_or ms k 0) 0 (not-false (eqb (get_or ms k 0) 0) (f.0 k 0 (omega arith) (omega arith)))))
+    ] in
+    inside (dec_le j k)
 
-pub span_end : (ms : List ℕ) (i : ℕ) → length ms ≤ i → span (drop i ms) ≡ 1
-unfolding span
-span_end ms i h = let e = place_end ends ms i h in omega arith
+-- the same from place i on: what is cut off is the first syllable of the rest, and what is left stands behind it
+pub record Part (ms cut left : List ℕ) (i : ℕ) : Type 0 where
+  pub is : drop i ms ≡ cut ++ left
+  pub more : i < length ms
+  pub end : i + length cut ≡ i + span (drop i ms)
+  pub some : 0 < length cut
+  pub fits : i + length cut ≤ length ms
+  pub behind : left ≡ drop (i + length cut) ms
+
+pub part : (ms rest cut left : List ℕ) (i j : ℕ) → Ended ms → rest ≡ drop i ms → rest ≡ cut ++ left → length cut ≡ min (j + 1) (length rest)
+    → IsFirstMatchOrLen ends rest j → 0 < length rest → Part ms cut left i
+part ms rest cut left i j e d c l f h =
+    let r : length rest ≡ length ms - i = rw (d, length-drop) in
+    let s = part_span rest (length cut) j (rw d (ended_from ms i e)) l f h in
+    record {
+      is = sym d ∙ c;
+      more = omega arith;
+      end = rw (← d) (omega arith);
+      some = omega arith;
+      fits = omega arith;
+      behind = sym (drop-append_seam cut left) ∙ rw (← c, d, drop-drop);
+    }
 
 -- one phone that ends no syllable, or one that does
 place_on : (m : ℕ) (ms : List ℕ) → eqb m 0 ≡ true → place ends (m ∷ ms) ≡ suc (place ends ms)
@@ -62,7 +93,7 @@ place_off : (m : ℕ) (ms : List ℕ) → eqb m 0 ≡ false → place ends (m �
 unfolding place ends
 place_off m ms t = rw t
 
-more_after : (m : ℕ) (ms : List ℕ) → eqb m 0 ≡ true → Ended (m ∷ ms) → 0 < length ms
+pub more_after : (m : ℕ) (ms : List ℕ) → eqb m 0 ≡ true → Ended (m ∷ ms) → 0 < length ms
 more_after m [] t e = absurd (e (omega arith) (eqb-true m 0 t))
 more_after m (n ∷ ms) t e = omega arith
 

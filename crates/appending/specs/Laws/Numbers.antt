@@ -1,18 +1,20 @@
 -- The numbers of a word's items, as the code finds them: the first and the last of its syllables and its phones.
 -- Assumes nothing.
-use Rattle.std.specs.Prelude.{ℕ, zero, suc, ◌+◌, ◌-◌, ◌≤◌, ◌<◌, ◌≡◌, eqb, take, drop}
+use Rattle.std.specs.Prelude.{ℕ, zero, suc, ◌+◌, ◌-◌, ◌≤◌, ◌<◌, ◌≡◌, eqb, cond, take, drop}
 use Rattle.std.proofs.Common.{not-suc-le-zero, arith, ◌∙◌, length-drop, drop_of_length-le, length-take-le}
 use Rattle.std.proofs.Math.Decide.{dec_le}
 use Rattle.std.proofs.Math.Path.{refl, sym}
 use mathlib.Core.List.{List, [], ◌∷◌, ◌++◌, append-nil}
 use Rattle.std.proofs.Math.ListN.{length}
+use Rattle.std.specs.List.{count_by}
+use Rattle.std.proofs.lemmas.List.Sums.{sum_by-cons}
 use Rattle.texts.specs.Choice.{cases}
 use Rattle.texts.specs.Lists.{from, length_from}
 use Rattle.records.specs.Chain.{end_of, end_append}
 use Rattle.utterance_spec.specs.Tree.{Syllable, syllables_at, phones_in}
 use Rattle.utterance_spec.specs.Append.{head_or, size_in, numbered}
 use Rattle.utterance_spec.specs.Cuts.{on_head, grouped, Ended}
-use Rattle.appending.specs.Laws.Grouped.{span, end_behind, grouped_from}
+use Rattle.appending.specs.Laws.Grouped.{ends, span, ended_from, more_after, end_behind, grouped_from}
 
 -- the first and the last of n numbers from k on
 pub head_some : (d k n : ℕ) → 0 < n → head_or d (from k n) ≡ k
@@ -130,6 +132,24 @@ module _ (ms : List ℕ) (ps : List (List ℕ)) (l : length ms ≡ length ps) wh
       go (no f) =
           last_phone_lem q k (grouped ms ps) (grouped_some ms ps l (omega arith)) (grouped_filled ms ps)
           ∙ sym (head_some q (k + size_in (grouped ms ps)) (length ms) (omega arith))
+
+-- how many items syllables have: one for each phone, and one for each that ends a syllable
+size_more : (p : List ℕ) (ys : List Syllable) → 0 < length ys → size_in (on_head p ys) ≡ suc (size_in ys)
+unfolding size_in
+size_more p [] h = absurd (not-suc-le-zero h)
+size_more p (y ∷ ys) h = omega arith
+
+pub size_counted : (ms : List ℕ) (ps : List (List ℕ)) → length ms ≡ length ps → Ended ms → size_in (grouped ms ps) ≡ length ms + count_by ends ms
+unfolding size_in grouped ends
+size_counted [] ps l e = refl
+size_counted (m ∷ ms) [] l e = absurd (omega arith)
+size_counted (m ∷ ms) (p ∷ ps) l e =
+    let ih = size_counted ms ps (omega arith) (ended_from (m ∷ ms) 1 e) in
+    cases (eqb m 0)
+    (λ t.
+    let f = size_more p (grouped ms ps) (grouped_some ms ps (omega arith) (more_after m ms t e)) in
+    rw (sum_by-cons (λ x. cond (ends x) 1 0) m ms, t) (omega arith))
+    (λ t. rw (sum_by-cons (λ x. cond (ends x) 1 0) m ms, t) (omega arith))
 
 -- from phone i to e stands a syllable, with all its items
 abbrev pub Step : List ℕ → List (List ℕ) → ℕ → ℕ → Type 0

@@ -1,22 +1,25 @@
 -- A word's items as the code writes them: one law for each turn and end of the loops over its phones and its syllables.
 -- Assumes nothing.
-use Prim.Native.Nat.{ℕ, suc, ◌+◌, ◌-◌, ◌≤◌, ◌<◌}
-use Rattle.std.proofs.Common.{add-zero, ◌∙◌, drop-cons}
+use Prim.Native.Nat.{ℕ, zero, suc, ◌+◌, ◌-◌, ◌*◌, ◌/◌, ◌≤◌, ◌<◌}
+use Rattle.std.proofs.Common.{not-suc-le-zero, add-zero, ◌∙◌, drop-cons, length-take-le}
+use Rattle.std.proofs.lemmas.List.{take-take, drop-take, take-map}
 use native.Mathlib.Omega.{arith}
 use Rattle.std.specs.Prelude.{◌≡◌, refl, get_or, take, drop}
 use Rattle.std.proofs.Math.Path.{sym, ap}
 use mathlib.Core.List.{List, [], ◌∷◌, ◌++◌}
-use Rattle.std.proofs.Math.ListN.{length, length-drop}
+use Rattle.std.proofs.Math.ListN.{length, length-drop, get_or-append}
+use Rattle.std.proofs.Math.Seq.{drop-drop, get_or-drop}
 use Rattle.texts.specs.Lists.{from, length_from}
-use Rattle.records.specs.Records.{put_record}
+use Rattle.records.specs.Records.{put_record, first_records, records}
 use Rattle.records.specs.Chain.{end_of}
+use Rattle.cells.specs.Cells.{phones_of, length_phones_of, phones_from}
 use Rattle.items_spec.specs.Item.{Item, item}
 use Rattle.utterance_spec.specs.Tree.{Syllable, syllables_at}
 use Rattle.utterance_spec.specs.Append.{head_or, size_in, size, numbered, phone_items, syllable_items, word_items, put_items, tied, appended}
 use Rattle.utterance_spec.specs.Sheet.{at, used}
 use Rattle.utterance_spec.specs.Cuts.{grouped, cut_word, Ended}
-use Rattle.appending.specs.Laws.Grouped.{span, end_behind, grouped_from}
-use Rattle.appending.specs.Laws.Numbers.{head_some, end_from, syllable_at_lem, phone_at, phone_last, grouped_end, numbered_turn, phones_long}
+use Rattle.appending.specs.Laws.Grouped.{Part, span, end_behind, grouped_from}
+use Rattle.appending.specs.Laws.Numbers.{Step, step, head_some, end_from, syllable_at_lem, phone_at, phone_last, grouped_end, numbered_turn, phones_long}
 
 -- items put behind others
 put_append : (b : List ℕ) (k : ℕ) (is js : List Item) → put_items b k (is ++ js) ≡ put_items (put_items b k is) (k + length is) js
@@ -125,3 +128,62 @@ module _ (ms : List ℕ) (ps : List (List ℕ)) (l : length ms ≡ length ps) (t
       let e₁ : used b + 1 + 1 + 1 ≡ used b + 1 + 2 = omega arith in
       let e₂ : used b + 1 + size_in (grouped ms ps) ≡ used b + (1 + size_in (grouped ms ps)) = omega arith in
       et ∙ rw (es, ea, ez, eu, en, eq, ew, phone_at ms ps l (used b + 1 + 1), phone_last ms ps l (at b 0).prev (used b + 1), e₁, e₂)
+
+-- the first n phones of a list in cells
+first_take : (w n k : ℕ) (b : List ℕ) → w * n ≤ length b → n ≤ k → first_records w n (take (w * n) b) ≡ take n (first_records w k b)
+unfolding first_records
+first_take w zero k b h g = refl
+first_take w (suc n) zero b h g = absurd (not-suc-le-zero g)
+first_take w (suc n) (suc k) b h g =
+    let e : w * suc n ≡ w + w * n = omega arith in
+    let d = length-drop w b in
+    rw (e, take-take w (w + w * n) b (omega arith), drop-take w (w * n) b, first_take w n k (drop w b) (omega arith) (omega arith))
+
+phones_front : (b : List ℕ) (n : ℕ) → n ≤ length b / 16 → phones_of (take (16 * n) b) ≡ take n (phones_of b)
+unfolding phones_of records
+phones_front b n h =
+    let e : length (take (16 * n) b) / 16 ≡ n = rw (length-take-le (16 * n) b (omega arith)) (omega arith) in
+    rw (e, first_take 16 n (length b / 16) b (omega arith) h, take-map)
+
+-- a syllable and its phones, as they are cut off from the cuts and the cells that are left
+module _ (ms marks rest phones cells own behind : List ℕ) (i : ℕ) (l : length ms ≡ length phones / 16) (ended : Ended ms) (p : Part ms marks rest i)
+    (d : cells ≡ drop (16 * i) phones) (f : own ≡ take (16 * length marks) cells) (b : behind ≡ drop (16 * length marks) cells) where
+  pub part_step : Step ms (phones_of phones) i (i + length marks)
+  part_step = step ms (phones_of phones) i (i + length marks) (l ∙ sym (length_phones_of phones)) p.more ended p.end
+
+  long : length cells ≡ length phones - 16 * i
+  long = rw (d, length-drop)
+
+  pub part_own : length own / 16 ≡ length marks
+  part_own =
+      let g = p.fits in
+      let n : length own ≡ 16 * length marks = rw (f, length-take-le (16 * length marks) cells (omega (arith, long))) in
+      omega arith
+
+  pub part_left : behind ≡ drop (16 * (i + length marks)) phones
+  part_left = let e : 16 * i + 16 * length marks ≡ 16 * (i + length marks) = omega arith in b ∙ rw (d, drop-drop (16 * length marks) (16 * i) phones, e)
+
+  stress : get_or ms (i + length marks - 1) 0 ≡ get_or marks (length marks - 1) 0
+  stress =
+      let g = p.some in
+      let k : i + length marks - 1 ≡ i + (length marks - 1) = omega arith in
+      rw (k, ← get_or-drop i ms (length marks - 1) 0, p.is) (get_or-append marks rest 0 (length marks - 1) (omega arith))
+
+  phones_own : take (length marks) (drop i (phones_of phones)) ≡ phones_of own
+  phones_own =
+      let g = p.fits in
+      let h : length marks ≤ length cells / 16 = omega (arith, long) in
+      sym (rw (f, phones_front cells (length marks) h, d, phones_from phones i (omega arith)))
+
+  count_left : length ms - (i + length marks) ≡ length behind / 16
+  count_left =
+      let n : length behind ≡ length phones - 16 * (i + length marks) = rw (part_left, length-drop) in
+      omega arith
+
+  pub part_put : (sheet : List ℕ) (w q k : ℕ) → put_items sheet k (syllables_from w q k (grouped (drop i ms) (drop i (phones_of phones))))
+      ≡ put_items (put_items sheet k (one_syllable w q k (get_or marks (length marks - 1) 0) (length own / 16) (length behind / 16) (phones_of own))) (k + length marks + 1)
+      (syllables_from w (k + length marks) (k + length marks + 1) (grouped (drop (i + length marks) ms) (drop (i + length marks) (phones_of phones))))
+  part_put sheet w q k =
+      let n : i + length marks - i ≡ length marks = omega arith in
+      syllables_turn ms (phones_of phones) i (i + length marks) (l ∙ sym (length_phones_of phones)) p.more ended p.end sheet w q k
+      ∙ rw (stress, n, count_left, phones_own, part_own)

@@ -1,14 +1,39 @@
--- Tests at the numbers below n: one law for each turn of a loop over them, and the first that passes.
+-- Tests at the numbers below n: at each of them, and the first that passes.
 -- Assumes nothing.
-use Rattle.std.specs.Prelude.{ℕ, zero, suc, ◌+◌, ◌≤◌, ◌<◌, ◌≡◌, Bool, true, false, get_or, drop}
-use Rattle.std.proofs.Common.{arith, sym, ap, ◌∙◌}
-use Rattle.texts.specs.Lists.{every, every_turn, every_stop, every_end, every_at, place, place_turn, place_stop, place_end, up_to, length_from, get_d_from}
+use Rattle.std.specs.Prelude.{ℕ, zero, suc, ◌+◌, ◌-◌, ◌≤◌, ◌<◌, ◌≡◌, refl, Bool, true, false, List, get_or, drop}
+use Rattle.std.proofs.Common.{arith, sym, ap, ◌∙◌, add-one}
+use Rattle.std.specs.List.{list_all, range_with_len}
+use Rattle.texts.specs.Lists.{every, every_turn, every_stop, every_end, every_at, place, place_turn, place_stop, place_end, from, up_to, length_from, get_d_from}
+use Rattle.texts.specs.Laws.Library.{every_list_all}
+
+-- they are the library's range
+from_range : (k n : ℕ) → from k n ≡ range_with_len k n
+unfolding from
+from_range k zero = refl
+from_range k (suc n) = rw (from_range (suc k) n, add-one) refl
+
+behind_range : (f : ℕ → Bool) (k n : ℕ) → every f (from k n) ≡ list_all (λ (i : ℕ). f (i - 1)) (range_with_len (k + 1) n)
+unfolding every from
+behind_range f k zero = refl
+behind_range f k (suc n) =
+    let e : k + 1 - 1 ≡ k = omega arith in
+    let s : suc k ≡ k + 1 = omega arith in
+    rw (e, ← s) (rw (behind_range f (suc k) n) (rw add-one refl))
 
 module _ (f : ℕ → Bool) (n : ℕ) where
+  -- `all` over them
+  pub below_all : every f (up_to n) ≡ list_all f (range_with_len 0 n)
+  below_all = every_list_all f (up_to n) ∙ ap (λ (l : List ℕ). list_all f l) (from_range 0 n)
+
+  -- `all` over the numbers 1 to n, each of which asks for the one before it
+  pub before_all : every f (up_to n) ≡ list_all (λ (i : ℕ). f (i - 1)) (range_with_len 1 n)
+  before_all = behind_range f 0 n
+
   -- the test at the number that a turn reads
   read : (i : ℕ) → i < n → f (get_or (up_to n) i 0) ≡ f i
   read i h = let e : get_or (up_to n) i 0 ≡ i = omega (arith, get_d_from 0 n i 0 h) in ap f e
 
+  -- from a number on
   pub below_turn : (i : ℕ) → i < n → f i ≡ true → every f (drop i (up_to n)) ≡ every f (drop (i + 1) (up_to n))
   below_turn i h e = every_turn f (up_to n) i 0 (omega (arith, length_from 0 n)) (read i h ∙ e)
 

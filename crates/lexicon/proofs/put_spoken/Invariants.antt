@@ -7,4 +7,4 @@ use Rattle.lexicon.proofs.put_spoken.Given as goal
 
 abbrev pub invariant-loop-i : goal.invariant-loop-i
 invariant-loop-i l =
-    (l.out ≡ paste l.initial.out 0 (cells_of (entry_phones l.phones l.s)) (16 * l.i)) × (length l.out ≡ length l.initial.out)
+    (l.out ≡ paste l.initial.out 0 (cells_of (entry_phones l.table.bytes.now l.s)) (16 * l.i)) × (length l.out ≡ length l.initial.out)

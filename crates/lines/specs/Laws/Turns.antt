@@ -1,7 +1,7 @@
 -- The lines of a text and the fields of a line, told by the first one and the rest.
 -- Assumes nothing.
-use Rattle.std.specs.Prelude.{ℕ, zero, suc, ◌+◌, ◌-◌, ◌≤◌, ◌<◌, ◌≡◌, refl, true, false, List, [], ◌∷◌, length, drop}
-use Rattle.std.proofs.Common.{not-suc-le-zero, le_of_suc-le-suc, arith, sym, ap, ◌∙◌, length-drop, drop_of_length-le, leb-false}
+use Rattle.std.specs.Prelude.{ℕ, zero, suc, ◌+◌, ◌-◌, ◌≤◌, ◌<◌, ◌≡◌, refl, true, false, List, [], ◌∷◌, length}
+use Rattle.std.proofs.Common.{not-suc-le-zero, le_of_suc-le-suc, arith, sym, ap, ◌∙◌, length-drop, leb-false}
 use Rattle.texts.specs.Choice.{cases}
 use Rattle.texts.specs.Lists.{place, place_le}
 use Rattle.texts.specs.Text.{blank, is}
@@ -77,6 +77,10 @@ pub lines_first : (t : List ℕ) → 0 < length t → lines t ≡ first_line t �
 lines_first [] h = absurd (not-suc-le-zero h)
 lines_first (x ∷ xs) h = lines_more x xs
 
+pub line_shrinks : (t : List ℕ) → 0 < length t → length (after_line t) < length t
+line_shrinks [] h = absurd (not-suc-le-zero h)
+line_shrinks (x ∷ xs) h = let l = shorter_line x xs in omega arith
+
 -- the fields: none, or the first and those behind it
 pub fields_none : (s : List ℕ) → is_empty s ≡ true → fields s ≡ []
 unfolding fields fields_of
@@ -93,15 +97,7 @@ fields_more s e =
     let n : length s ≡ suc (length s - 1) = omega arith in
     ap (λ (k : ℕ). fields_of k s) n ∙ rw e (ap (λ (r : List (List ℕ)). field s ∷ r) (enough_fields (length s - 1) (length (after_field s)) (after_field s) (omega arith) (omega arith)))
 
--- a field that is there is passed, and past the end there is none
-pub field_forward : (s : List ℕ) (at r : ℕ) → drop r s ≡ after_field (drop at s) → is_empty (drop at s) ≡ false → r ≤ length s → at < r
-field_forward s at r e h l =
-    let f = shorter_field (drop at s) h in
-    let a = length-drop at s in
-    let b = length-drop r s in
-    let c = ap (λ (t : List ℕ). length t) e in
-    omega arith
+-- the laws of an iterator over the lines, and of one over the fields
+pub ruleset line_turns = (lines_none, lines_first, line_shrinks)
 
-pub fields_past : (s : List ℕ) (at : ℕ) → length s ≤ at → fields (drop at s) ≡ []
-unfolding fields fields_of
-fields_past s at h = rw (drop_of_length-le s h)
+pub ruleset field_turns = (fields_none, fields_more, shorter_field)

@@ -4,4 +4,5 @@ use Rattle.lts.proofs.window.Goals as goal
 
 pub returns : goal.returns
 returns c =
-    let a = c.args in parts a.text.now a.k c.copy_in.new.dst c.copy_in-2.new.dst c.requires.0 c.requires.1 c.copy_in.ensures c.copy_in-2.ensures
+    let a = c.args in
+    parts a.text.now a.k c.copy_from_slice.new.self c.copy_from_slice-2.new.self c.requires.0 c.requires.1 c.copy_from_slice.ensures.after c.copy_from_slice-2.ensures.after

@@ -1,33 +1,26 @@
--- `onsets::is_onset` meets its contract: no row passed is the text, so the rows left decide. Assumes nothing.
-use Prim.Native.Nat.{ℕ, ◌≤◌, ◌-◌}
-use native.Mathlib.Omega.{arith}
-use mathlib.Core.Path.{◌≡◌, refl, sym, ◌∙◌}
-use mathlib.Core.List.{List, []}
-use lib.ListN.{drop}
-use Rattle.texts.specs.Lists.{some, some_turn, some_stop, some_end}
+-- `onsets::is_onset` meets its contract: a row's text is the onset. Assumes nothing.
+use Rattle.std.proofs.Common.{◌≡◌, Bool, rules, tests, sym, ◌∙◌, ℕ, List, ◌-◌, length, map, get_or, take, drop, nat_eq}
+use Rattle.std.proofs.Math.ListN.{replicate}
+use Rattle.std.proofs.Math.Seq.{take-append_seam}
+use Rattle.std.proofs.lemmas.Iterator.{YieldsList-from_slice}
+use Rattle.std.proofs.lemmas.Iterator.Search.{any_from_yields_List}
+use Rattle.std.specs.Cmp.Lexicographic.{pointwise}
 use Rattle.texts.specs.Text.{same}
-use Rattle.onsets.specs.Onsets.{onsets, is_onset}
-use Rattle.onsets.specs.Rules.{onset_count}
+use Rattle.texts.specs.Laws.Library.{some_list_any, some_map, same_pointwise}
+use Rattle.onsets.specs.Onsets.{onsets, encoded, is_onset}
 use Rattle.onsets.proofs.is_onset.Goals as goal
 
-pub loop-n-init : goal.loop-n-init
-unfolding is_onset
-loop-n-init c = (omega arith, refl)
+abbrev is_row : List ℕ → List ℕ → Bool
+is_row x row = pointwise nat_eq (take (get_or row 0 0) (drop 1 row)) x
 
-pub returns-then-is_row : goal.returns-then-is_row
-returns-then-is_row c =
-    let l = c.loop-n in
-    let t = c.args.text.now in
-    sym (l.invariant.1 ∙ some_stop (λ (r : List ℕ). same r t) onsets l.n [] (rw onset_count (omega arith)) (sym c.is_row.ensures ∙ c.if-is_row.true))
-
-pub loop-n-preserved : goal.loop-n-preserved
-loop-n-preserved c =
-    let l = c.loop-n in
-    let t = c.args.text.now in
-    (omega arith, l.invariant.1 ∙ some_turn (λ (r : List ℕ). same r t) onsets l.n [] (rw onset_count (omega arith)) (sym c.is_row.ensures ∙ c.if-is_row.false))
+rowed : (x r : List ℕ) → is_row x (encoded r) ≡ same r x
+unfolding encoded
+rowed x r = rw (take-append_seam r (replicate (3 - length r) 0)) (sym (same_pointwise r x))
 
 pub returns : goal.returns
+unfolding is_onset
 returns c =
-    let l = c.loop-n in
-    let t = c.args.text.now in
-    sym (l.invariant.1 ∙ some_end (λ (r : List ℕ). same r t) onsets l.n (rw onset_count (omega arith)))
+    let x = c.args.text.now in
+    any_from_yields_List (is_row x) _ _ c.any.result c.any.ensures.ran
+    (YieldsList-from_slice (map encoded onsets) cc) (λ x b q k. search (rules, tests))
+    ∙ sym (some_list_any (is_row x) (map encoded onsets)) ∙ some_map (is_row x) encoded (λ (r : List ℕ). same r x) (rowed x) onsets

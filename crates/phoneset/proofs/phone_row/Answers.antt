@@ -3,4 +3,4 @@ use Rattle.phoneset.specs.Rules.{row_at}
 use Rattle.phoneset.proofs.phone_row.Goals as goal
 
 pub returns : goal.returns
-returns c = row_at c.rows-table.result c.rows-table.ensures c.args.n c.requires
+returns c = row_at c.rows.result.now c.rows.ensures c.args.n c.requires

@@ -1,47 +1,31 @@
--- `phoneset::row_of` meets its contract: no row passed is named so, so the rows left decide. Assumes nothing.
-use Prim.Native.Nat.{ℕ, ◌≤◌, ◌<◌, ◌-◌, ◌+◌}
-use native.Mathlib.Omega.{arith}
-use mathlib.Core.List.{List}
-use mathlib.Core.Path.{◌≡◌, sym, ap, ◌∙◌}
-use lib.ListN.{drop}
-use Rattle.texts.specs.Lists.{place, place_turn, place_stop, place_end}
+-- `phoneset::row_of` meets its contract: a row's text is its name, so the first row of that text is the phone's. Assumes nothing.
+use Rattle.std.proofs.Common.{◌≡◌, Bool, rules, tests, sym, ◌∙◌, ℕ, List, ◌++◌, ◌-◌, length, map, get_or, take, drop, nat_eq}
+use Rattle.std.proofs.Math.ListN.{replicate}
+use Rattle.std.proofs.Math.Seq.{take-append_seam}
+use Rattle.std.proofs.lemmas.List.{length-map}
+use Rattle.std.proofs.lemmas.Iterator.{YieldsList-from_slice}
+use Rattle.std.proofs.lemmas.Iterator.Search.{position_from_yields_List}
+use Rattle.std.specs.Cmp.Lexicographic.{pointwise}
+use Rattle.std.specs.List.{position}
 use Rattle.texts.specs.Text.{same}
-use Rattle.phoneset.specs.Phones.{Phone, phones, no_phone, row_of}
-use Rattle.phoneset.specs.Rules.{phone_count, row_fits_lem, row_name}
+use Rattle.texts.specs.Laws.Library.{position_place, place_map, same_pointwise}
+use Rattle.phoneset.specs.Phones.{Phone, phones, encoded, row_of}
+use Rattle.phoneset.specs.Rules.{phone_count}
 use Rattle.phoneset.proofs.row_of.Goals as goal
 
-pub loop-n-init : goal.loop-n-init
-unfolding row_of
-loop-n-init c = (omega arith, omega arith)
+abbrev is_named : List ℕ → List ℕ → Bool
+is_named x row = pointwise nat_eq (take (get_or row 0 0) (drop 1 row)) x
 
-pub is_named-requires : goal.is_named-requires
-is_named-requires c =
-    let t = c.rows-table in
-    row_fits_lem t.result t.ensures c.loop-n.n (omega arith)
-
-pub returns-then-is_named : goal.returns-then-is_named
-returns-then-is_named c =
-    let n = c.loop-n.n in
-    let x = c.args.phone.now in
-    let t = c.rows-table in
-    let h : n < 50 = omega arith in
-    let named = ap (λ (l : List ℕ). same l x) (sym (row_name t.result t.ensures n h)) ∙ sym c.is_named.ensures in
-    let e = place_stop (λ (r : Phone). same r.name x) phones n no_phone (rw phone_count h) (named ∙ c.if-is_named.true) in
-    omega arith
-
-pub loop-n-preserved : goal.loop-n-preserved
-loop-n-preserved c =
-    let n = c.loop-n.n in
-    let x = c.args.phone.now in
-    let t = c.rows-table in
-    let h : n < 50 = omega arith in
-    let named = ap (λ (l : List ℕ). same l x) (sym (row_name t.result t.ensures n h)) ∙ sym c.is_named.ensures in
-    let e = place_turn (λ (r : Phone). same r.name x) phones n no_phone (rw phone_count h) (named ∙ c.if-is_named.false) in
-    (omega arith, omega arith)
+named : (x : List ℕ) (r : Phone) → is_named x (encoded r) ≡ same r.name x
+unfolding encoded
+named x r = rw (take-append_seam r.name (replicate (4 - length r.name) 0 ++ r.features)) (sym (same_pointwise r.name x))
 
 pub returns : goal.returns
+unfolding row_of
 returns c =
-    let l = c.loop-n in
     let x = c.args.phone.now in
-    let e = place_end (λ (r : Phone). same r.name x) phones l.n (rw phone_count (omega arith)) in
-    omega arith
+    let e : c.position.result ≡ position (is_named x) (map encoded phones) =
+    position_from_yields_List (is_named x) _ _ c.position.result c.position.ensures.ran
+    (YieldsList-from_slice _ cc) (λ x b q k. search (rules, tests)) in
+    let m = place_map (is_named x) encoded (λ (r : Phone). same r.name x) (named x) phones in
+    position_place (is_named x) (map encoded phones) c.position.result (row_of x) 50 e m (length-map phones encoded ∙ phone_count)

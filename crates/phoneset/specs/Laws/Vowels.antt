@@ -1,8 +1,9 @@
--- The vowels by name: the names of the rows whose vc is "+", parted by length, and those of two letters as numbers.
+-- The vowels by name: the names of the rows whose vc is "+", parted by length, and those of two letters by their first.
 -- Assumes nothing.
-use Rattle.std.specs.Prelude.{ℕ, ◌+◌, ◌*◌, ◌<◌, ◌≡◌, refl, Bool, true, false, not, ◌&&◌, ◌||◌, List, [], ◌∷◌, map, eqb, ltb, length, get_or}
-use Rattle.std.proofs.Common.{arith, sym, ap, ◌∙◌, eqb-true, eq-eqb, ne_eqb, ltb-true}
+use Rattle.std.specs.Prelude.{ℕ, ◌≡◌, refl, Bool, true, false, not, ◌||◌, List, [], ◌∷◌, map, eqb, length, get_or}
+use Rattle.std.proofs.Common.{sym, ap, ◌∙◌, eqb-true}
 use Rattle.std.proofs.lemmas.Bool.{eqb-false, not-true}
+use Rattle.std.proofs.Math.Bool.{and-true}
 use Rattle.texts.specs.Choice.{when◌then◌else◌, cases, both_true, never}
 use Rattle.texts.specs.Lists.{every, some, place}
 use Rattle.texts.specs.Text.{bytes, same, same_true, same_refl, ne_same, distinct}
@@ -64,7 +65,7 @@ unfoldable pub of_length : ℕ → List (List ℕ) → List (List ℕ)
 of_length n [] = []
 of_length n (v ∷ vs) = when eqb (length v) n then v ∷ of_length n vs else of_length n vs
 
-by_length : (x : List ℕ) (vs : List (List ℕ)) → some (same x) vs ≡ some (same x) (of_length (length x) vs)
+pub by_length : (x : List ℕ) (vs : List (List ℕ)) → some (same x) vs ≡ some (same x) (of_length (length x) vs)
 unfolding some of_length
 by_length x [] = refl
 by_length x (v ∷ vs) =
@@ -73,15 +74,8 @@ by_length x (v ∷ vs) =
     (λ e. rw (e, ih))
     (λ e. rw (e, ne_same x v (λ q. eqb-false (length v) (length x) e (ap length (sym q)))) ih)
 
--- a text of two bytes is its bytes
-pub two_bytes : (x : List ℕ) → length x ≡ 2 → x ≡ get_or x 0 0 ∷ get_or x 1 0 ∷ []
-two_bytes [] l = absurd (omega arith)
-two_bytes (a ∷ []) l = absurd (omega arith)
-two_bytes (a ∷ b ∷ []) l = refl
-two_bytes (a ∷ b ∷ c ∷ x) l = absurd (omega arith)
-
 -- "axr" is the only one of three bytes
-pub vowel_three : (x : List ℕ) → length x ≡ 3 → is_vowel x ≡ same x (bytes "axr")
+vowel_three : (x : List ℕ) → length x ≡ 3 → is_vowel x ≡ same x (bytes "axr")
 unfolding vowels phones plus of_length some
 vowel_three x h =
     let e = vowel_listed x ∙ by_length x vowels in
@@ -107,50 +101,41 @@ no_length x (v ∷ vs) h two three =
     let b = both_true (is_two_or_three v) (every is_two_or_three vs) h in
     rw (other_length x v b.0 two three) (no_length x vs b.1 two three)
 
-pub vowel_other : (x : List ℕ) → (length x ≡ 2 → ⊥) → (length x ≡ 3 → ⊥) → is_vowel x ≡ false
+vowel_other : (x : List ℕ) → (length x ≡ 2 → ⊥) → (length x ≡ 3 → ⊥) → is_vowel x ≡ false
 unfolding vowels phones plus every
 vowel_other x two three = vowel_listed x ∙ no_length x vowels refl two three
 
--- two letters as a number, the first letter its low byte
-unfoldable pub number : List ℕ → ℕ
-number v = get_or v 0 0 + 256 * get_or v 1 0
-
--- a name of two bytes
-abbrev is_pair : List ℕ → Bool
-is_pair v = eqb (length v) 2 && ltb (get_or v 0 0) 256
-
--- such a name is two letters if it has their number
-same_number : (a b : ℕ) (v : List ℕ) → a < 256 → length v ≡ 2 → get_or v 0 0 < 256 → same (a ∷ b ∷ []) v ≡ eqb (a + 256 * b) (number v)
-unfolding same number
-same_number a b [] la l lx = absurd (omega arith)
-same_number a b (x ∷ []) la l lx = absurd (omega arith)
-same_number a b (x ∷ y ∷ z ∷ v) la l lx = absurd (omega arith)
-same_number a b (x ∷ y ∷ []) la l lx =
-    cases (eqb (a + 256 * b) (x + 256 * y))
+-- so one that has not two bytes is "axr"
+pub vowel_rest : (x : List ℕ) → (length x ≡ 2 → ⊥) → is_vowel x ≡ same x (bytes "axr")
+vowel_rest x two =
+    cases (eqb (length x) 3)
+    (λ e. vowel_three x (eqb-true (length x) 3 e))
     (λ e.
-    let q = eqb-true (a + 256 * b) (x + 256 * y) e in
-    let qa : a ≡ x = omega arith in
-    let qb : b ≡ y = omega arith in
-    rw (e, eq-eqb a x qa, eq-eqb b y qb))
-    (λ e.
-    let n = eqb-false (a + 256 * b) (x + 256 * y) e in
-    cases (eqb a x)
-    (λ s. let qa = eqb-true a x s in rw (e, s, ne_eqb b y (λ qb. n (omega arith))))
-    (λ s. rw (e, s)))
+    let three = eqb-false (length x) 3 e in
+    vowel_other x two three ∙ sym (ne_same x (bytes "axr") (λ q. three (ap length q))))
 
-by_number : (a b : ℕ) (vs : List (List ℕ)) → a < 256 → every is_pair vs ≡ true → some (same (a ∷ b ∷ [])) vs ≡ some (eqb (a + 256 * b)) (map number vs)
-unfolding some every
-by_number a b [] la h = refl
-by_number a b (v ∷ vs) la h =
-    let t = both_true (is_pair v) (every is_pair vs) h in
-    let w = both_true (eqb (length v) 2) (ltb (get_or v 0 0) 256) t.0 in
-    let e = same_number a b v la (eqb-true (length v) 2 w.0) (ltb-true (get_or v 0 0) 256 w.1) in
-    rw (e, by_number a b vs la t.1)
+-- those of two letters by their first
+abbrev seconds : ℕ → List ℕ
+seconds a =
+    when eqb a 97 then bytes "aehowxy"
+    else when eqb a 101 then bytes "hlmnry"
+    else when eqb a 105 then bytes "hy"
+    else when eqb a 111 then bytes "wy"
+    else when eqb a 117 then bytes "hw"
+    else []
 
--- the numbers of the vowels of two letters
-unfoldable pub pairs : List ℕ
-pairs = map number (of_length 2 vowels)
-
-pub vowel_two : (a b : ℕ) → a < 256 → is_vowel (a ∷ b ∷ []) ≡ some (eqb (a + 256 * b)) pairs
-unfolding pairs vowels phones plus of_length every
-vowel_two a b la = vowel_listed (a ∷ b ∷ []) ∙ by_length (a ∷ b ∷ []) vowels ∙ by_number a b (of_length 2 vowels) la refl
+pub vowel_two : (a b : ℕ) → is_vowel (a ∷ b ∷ []) ≡ some (eqb b) (seconds a)
+unfolding phones plus vowels of_length some same
+vowel_two a b =
+    vowel_listed (a ∷ b ∷ []) ∙ by_length (a ∷ b ∷ []) vowels
+    ∙ cases (eqb a 97)
+    (λ e. rw (eqb-true a 97 e) (simp and-true))
+    (λ e₁. cases (eqb a 101)
+    (λ e. rw (eqb-true a 101 e) (simp and-true))
+    (λ e₂. cases (eqb a 105)
+    (λ e. rw (eqb-true a 105 e) (simp and-true))
+    (λ e₃. cases (eqb a 111)
+    (λ e. rw (eqb-true a 111 e) (simp and-true))
+    (λ e₄. cases (eqb a 117)
+    (λ e. rw (eqb-true a 117 e) (simp and-true))
+    (λ e₅. rw (e₁, e₂, e₃, e₄, e₅))))))

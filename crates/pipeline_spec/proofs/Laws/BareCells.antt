@@ -1,12 +1,12 @@
 -- The bare phones, in version v, of a list in cells, and the phones of cells that stand at the front of a room.
 -- Assumes nothing.
-use Rattle.std.specs.Prelude.{ℕ, ◌+◌, ◌*◌, ◌/◌, ◌≤◌, ◌<◌, ◌≡◌, List, [], ◌++◌, map, length, get_or, take}
-use Rattle.std.proofs.Common.{arith, ◌∙◌, take_at, zero-add}
+use Rattle.std.specs.Prelude.{ℕ, ◌+◌, ◌*◌, ◌/◌, ◌≤◌, ◌<◌, ◌≡◌, List, [], ◌++◌, map, length, get_or, take, drop}
+use Rattle.std.proofs.Common.{arith, sym, ◌∙◌, take_at, zero-add}
 use Rattle.std.proofs.Math.Seq.{paste}
 use Rattle.std.proofs.lemmas.List.{length-map}
 use Rattle.texts.specs.Lists.{get_d_map}
 use Rattle.records.specs.Records.{put_record}
-use Rattle.cells.specs.Cells.{phones_of, cell, cells_of, length_phones_of, phone_fits_lem, length_cells_of, phones_cells, cells_turn}
+use Rattle.cells.specs.Cells.{phones_of, cell, cells_of, length_phones_of, phone_fits_lem, length_cells_of, phones_cells, cells_turn, cells_front}
 use Rattle.versions.specs.Versions.{digits}
 use Rattle.phoneset.specs.Stress.{bare, bare_short}
 
@@ -32,6 +32,11 @@ module _ (v : ℕ) (b : List ℕ) where
       → put_record 16 (paste dst 0 (cells_of bare_of) (16 * i)) i (cell (bare (digits v) (get_or (phones_of b) i []))) ≡ paste dst 0 (cells_of bare_of) (16 * (i + 1))
   bare_turn dst i h room =
       let l = length_bare in rw (← bare_at i h) (rw (zero-add i) at (cells_turn dst bare_of 0 i bares_fit (omega arith) (omega arith)))
+
+  pub bare_all : (dst : List ℕ) (n : ℕ) → n ≡ length b / 16 → paste dst 0 (cells_of bare_of) (16 * n) ≡ cells_of bare_of ++ drop (16 * (length b / 16)) dst
+  bare_all dst n e = rw (← length_bare) (cells_front dst bare_of n bares_fit (length_bare ∙ sym e))
+
+pub ruleset bare_turns = (bare_fits, bare_turn, bare_all)
 
 -- cells at the front of a room, read again
 pub front_phones : (ps : List (List ℕ)) (more : List ℕ) (n : ℕ) → ((i : ℕ) → i < length ps → length (get_or ps i []) ≤ 15) → length ps ≡ n → phones_of (take (16 * n) (cells_of ps ++ more)) ≡ ps

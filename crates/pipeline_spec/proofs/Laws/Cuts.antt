@@ -105,6 +105,8 @@ module _ (v : ℕ) where
   unfolding stressed
   stress_kept d p h = cases (is_stressed (digits v) p) (λ e. absurd (stress_never v (stress (digits v) p) (digit v p e) h)) (λ e. rw e)
 
+  pub ruleset stress_split = (stress_own, stress_kept)
+
   -- the syllables, of which the first had the stress d already
   abbrev sung_from : ℕ → List (List (List ℕ)) → List Syllable
   sung_from d [] = []
@@ -168,3 +170,7 @@ module _ (v : ℕ) where
 
     pub cuts_ended : Ended (cuts_of v 48 own_marks ps)
     cuts_ended = ended_from onsets 48 false ps (zero_stress v)
+
+    -- behind their marks anything may stand
+    pub cuts_own : (more : List ℕ) → cuts_of v 48 (own_marks ++ more) ps ≡ cuts_of v 48 own_marks ps
+    cuts_own more = cuts_front 48 own_marks more ps length_own

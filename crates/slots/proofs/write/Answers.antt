@@ -15,13 +15,13 @@ as_bit false = refl
 pub returns : goal.returns
 unfolding slot
 returns c =
-    let a = c.args in
+    let a = c.args.entry.now in
     let w = a.word.now in
     let ps = phones_of a.phones.now in
     let lp = length_phones_of a.phones.now in
     let lc = length_cells_of ps (λ i h. phone_fits_lem a.phones.now i (omega arith)) in
-    slot_written a.slot.now c.put_u16.new.s c.copy_in.new.dst c.clear.new.dst c.clear-2.new.dst c.put_phones.new.dst c.clear-3.new.dst
+    slot_written c.args.slot.now c.put_u16.new.s c.copy_in.new.dst c.clear.new.dst c.clear-2.new.dst c.put_phones.new.dst c.clear-3.new.dst
     w (cells_of ps) a.tag (length w) (length ps) (bit a.exact)
-    c.requires.0 (grind (arith, common_steps)) (grind (arith, common_steps)) (grind (arith, common_steps)) (grind (arith, common_steps)) (grind (arith, common_steps)) (grind (arith, common_steps))
+    c.requires (grind (arith, common_steps)) (grind (arith, common_steps)) (grind (arith, common_steps)) (grind (arith, common_steps)) (grind (arith, common_steps)) (grind (arith, common_steps))
     refl (omega arith) lc (omega arith)
     c.put_u16.ensures c.copy_in.ensures c.clear.ensures (rw (lp, ← as_bit a.exact, ← c.from.ensures) c.clear-2.ensures) (rw lp c.put_phones.ensures) (rw lp c.clear-3.ensures)

@@ -2,8 +2,8 @@
 use Rattle.std.proofs.Common.{arith, sym, nat_eq, ltb, ltb-true, ltb-false, ne_eqb}
 use Rattle.std.specs.Cmp.Lexicographic.{pointwise, slice_partial_cmp}
 use Rattle.std.specs.Ordering.{nat_cmp, partial_lt}
-use Rattle.std.specs.Prelude.{ℕ, Some, eqb, ◌≡◌, refl, Bool, List, [], ◌∷◌, length, map}
-use Rattle.std.specs.Option.{unwrap_or}
+use Rattle.std.specs.Prelude.{ℕ, ◌<◌, Option, Some, eqb, ◌≡◌, refl, Bool, List, [], ◌∷◌, length, map}
+use Rattle.std.specs.Option.{unwrap_or, MatchOption}
 use Rattle.std.specs.List.{list_all, list_any, position, position_or_len}
 use Rattle.texts.specs.Choice.{cases}
 use Rattle.texts.specs.Lists.{every, some, place, place_le}
@@ -32,11 +32,32 @@ module _ {A : Type 0} (f : A → Bool) where
       (λ e. rw e (sym (place_or_len l)))
       (λ e. rw e (let h = ltb-false (position_or_len f l) (length l) e in let k = place_le f l in let m = place_or_len l in omega arith))
 
--- a test of each element of a mapped list
-pub every_map : {A B : Type 0} (f : B → Bool) (g : A → B) (l : List A) → every f (map g l) ≡ every (λ x. f (g x)) l
-unfolding every
-every_map f g [] = refl
-every_map f g (x ∷ xs) = rw (every_map f g xs) refl
+  -- `position(..)` is the place, where that is inside
+  pub position_place : (l : List A) (o : Option ℕ) (m n : ℕ) → o ≡ position f l → place f l ≡ m → length l ≡ n
+      → MatchOption o (m ≡ n) (λ k. (k ≡ m) × (k < n))
+  position_place l o m n e p q =
+      let h = place_or_len l in
+      let k = place_le f l in
+      cases (ltb (position_or_len f l) (length l))
+      (λ t. let b = ltb-true (position_or_len f l) (length l) t in rw (e, t) (omega arith, omega arith))
+      (λ t. let b = ltb-false (position_or_len f l) (length l) t in rw (e, t) (omega arith))
+
+-- tests of a mapped list
+module _ {A B : Type 0} (f : B → Bool) (g : A → B) (h : A → Bool) (e : (x : A) → f (g x) ≡ h x) where
+  pub every_map : (l : List A) → every f (map g l) ≡ every h l
+  unfolding every
+  every_map [] = refl
+  every_map (x ∷ xs) = rw (e x, every_map xs)
+
+  pub some_map : (l : List A) → some f (map g l) ≡ some h l
+  unfolding some
+  some_map [] = refl
+  some_map (x ∷ xs) = rw (e x, some_map xs)
+
+  pub place_map : (l : List A) → place f (map g l) ≡ place h l
+  unfolding place
+  place_map [] = refl
+  place_map (x ∷ xs) = rw (e x, place_map xs)
 
 -- `==` of two slices of bytes
 pub same_pointwise : (a b : List ℕ) → same a b ≡ pointwise nat_eq a b

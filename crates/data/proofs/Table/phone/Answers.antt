@@ -8,10 +8,10 @@ pub phone_at-requires : goal.phone_at-requires
 phone_at-requires c =
     let t = c.args.self.now in
     let h : c.from.result < u32_at t.bytes.now 0 = omega arith in
-    (phone_stands t.bytes.now t.places c.from.result t.is_table t.placed h).fit
+    (phone_stands t.bytes.now t.places.now c.from.result t.is_table t.placed h).fit
 
 pub returns : goal.returns
 returns c =
     let t = c.args.self.now in
     let h : c.from.result < u32_at t.bytes.now 0 = omega arith in
-    c.phone_at.ensures ∙ rw (← c.from.ensures) (sym (phone_stands t.bytes.now t.places c.from.result t.is_table t.placed h).is)
+    c.phone_at.ensures ∙ rw (← c.from.ensures) (sym (phone_stands t.bytes.now t.places.now c.from.result t.is_table t.placed h).is)

@@ -17,7 +17,7 @@ returns-then-is_wanted c =
     let p = c.args.p in
     let l = c.loop in
     let q = c.next-q.result in
-    let k : c.is_wanted.result ≡ same_key (entry_at b p) (entry_at b q) = c.is_wanted.ensures ∙ rw (c.is_exact.ensures, c.word.ensures, c.tag.ensures, c.slot-wanted.ensures, c.slot.ensures) in
+    let k : c.is_wanted.result ≡ same_key (entry_at b p) (entry_at b q) = c.is_wanted.ensures ∙ rw (c.is_exact.ensures, c.word.ensures, c.tag.ensures, c.slot-slot.ensures, c.slot.ensures) in
     sym (l.invariant.0 ∙ has_hit (next b) (entry_at b) (same_key (entry_at b p)) (c.args.n - l.counter) l.q q (omega arith) c.next-q.ensures.0 c.if-q-eq0.false (sym k ∙ c.if-is_wanted.true))
 
 pub loop-preserved : goal.loop-preserved
@@ -27,7 +27,7 @@ loop-preserved c =
     let p = c.args.p in
     let l = c.loop in
     let q = c.next-q.result in
-    let k : c.is_wanted.result ≡ same_key (entry_at b p) (entry_at b q) = c.is_wanted.ensures ∙ rw (c.is_exact.ensures, c.word.ensures, c.tag.ensures, c.slot-wanted.ensures, c.slot.ensures) in
+    let k : c.is_wanted.result ≡ same_key (entry_at b p) (entry_at b q) = c.is_wanted.ensures ∙ rw (c.is_exact.ensures, c.word.ensures, c.tag.ensures, c.slot-slot.ensures, c.slot.ensures) in
     let e : c.args.n - l.counter - 1 ≡ c.args.n - (l.counter + 1) = omega arith in
     (rw (← e) (l.invariant.0 ∙ has_turn (next b) (entry_at b) (same_key (entry_at b p)) (c.args.n - l.counter) l.q q (omega arith) c.next-q.ensures.0 c.if-q-eq0.false (sym k ∙ c.if-is_wanted.false)), c.next-q.ensures.1)
 

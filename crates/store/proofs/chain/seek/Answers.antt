@@ -1,7 +1,8 @@
 -- `store::seek` meets its contract: none of the entries passed is wanted, so the search goes on behind p. Assumes nothing.
 use Rattle.std.proofs.Common.{arith, ◌≡◌, ◌+◌, ◌-◌, sym, ◌∙◌}
 use Rattle.store_spec.proofs.Laws.Turns.{seek_turn, seek_hit, seek_stop, seek_end}
-use Rattle.store_spec.specs.Store.{entry_at, is_wanted}
+use Rattle.store.specs.Wanting.{wants}
+use Rattle.store_spec.specs.Store.{entry_at}
 use Rattle.store.proofs.chain.seek.Goals as goal
 use Rattle.store.proofs.chain.seek.Goals.{then-q-eq0-via-then-q-eq0, then-q-eq0-via-else-q-eq0+then-is_wanted}
 
@@ -11,7 +12,7 @@ returns-then-q-eq0 c =
     let a = c.args in
     let l = c.loop in
     let b = a.store.now in
-    let wanted = is_wanted a.exact a.any a.word.now a.tag in
+    let wanted = wants a.wanted.now in
     elim c.then-q-eq0.branch [
       | then-q-eq0-via-then-q-eq0 w ↦ (sym (l.invariant.0 ∙ seek_stop b wanted (a.n - l.counter) l.p (sym c.next-q.ensures.0 ∙ w.if-q-eq0.true)), l.invariant.1)
       | then-q-eq0-via-else-q-eq0+then-is_wanted w ↦
@@ -24,7 +25,7 @@ loop-preserved c =
     let a = c.args in
     let l = c.loop in
     let b = a.store.now in
-    let wanted = is_wanted a.exact a.any a.word.now a.tag in
+    let wanted = wants a.wanted.now in
     let e : a.n - l.counter - 1 ≡ a.n - (l.counter + 1) = omega arith in
     (rw (← e) (l.invariant.0 ∙ seek_turn b wanted (a.n - l.counter) l.p c.next-q.result (omega arith) c.next-q.ensures.0 c.if-q-eq0.false (rw (← c.slot.ensures) (sym c.is_wanted.ensures ∙ c.if-is_wanted.false))), c.next-q.ensures.1)
 
@@ -32,4 +33,4 @@ pub returns : goal.returns
 returns c =
     let a = c.args in
     let l = c.loop in
-    (sym (l.invariant.0 ∙ seek_end a.store.now (is_wanted a.exact a.any a.word.now a.tag) (a.n - l.counter) l.p (omega arith)), l.invariant.1)
+    (sym (l.invariant.0 ∙ seek_end a.store.now (wants a.wanted.now) (a.n - l.counter) l.p (omega arith)), l.invariant.1)

@@ -1,9 +1,0 @@
--- `compiled::tagged` meets its contract: the entries passed have other tags, so the run from i on decides. Assumes nothing.
-use Rattle.std.proofs.Common.{arith, ◌≡◌, ◌+◌, ◌-◌}
-use Rattle.compiled_spec.proofs.Search.{walking}
-use Rattle.compiled.proofs.search.tagged.Goals as goal
-
-pub loop-i-preserved : goal.loop-i-preserved
-loop-i-preserved c =
-    let e : c.count-i-end.result - c.loop-i.i - 1 ≡ c.count-i-end.result - (c.loop-i.i + 1) = omega arith in
-    grind (arith, walking)

@@ -1,0 +1,2 @@
+-- To believe: Given says which entry a `NewEntry` gives.
+pub mod Given

@@ -1,0 +1,2 @@
+-- To believe: Wanting says which entries a `Wanted` wants.
+pub mod Wanting
