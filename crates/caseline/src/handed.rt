@@ -1,151 +1,121 @@
-// The arguments of a line of cases, and comparing what a call gave back with what the line says.
+// A line of cases as a call, its arguments, and what it tells behind the arrow; comparing what the call gave back with that.
 ghost use Rattle.std.specs.Prelude.{◌<◌};
 ghost use Rattle.caseline.specs.Counts.{Counts};
 
 use crate::read;
-use crate::read::Reading;
 use answers::Answer;
 
-// Where the arguments of a call end in the room, in order; the first stands from `ends[0]` on.
+// The arguments of a call; empty ones stand behind the last.
+pub type Arguments<'a> = [&'a [u8]; 11];
+
+// A line whose arguments were read, and what stands behind its arrow.
 #[derive(Clone, Copy)]
-pub struct Given {
-    pub ok: bool,
-    pub ends: [usize; 12],
+pub struct Case<'a> {
+    pub arguments: Arguments<'a>,
+    told: &'a [u8],
+    regs: &'a [u8],
 }
 
-// Argument k of a line that has n, read into the room; nothing where there is no such argument.
-fn one_argument(
-    line: &[u8],
-    k: usize,
-    n: usize,
-    regs: &[u8],
-    room: &mut [u8],
-    end: usize,
-) -> Reading
-    requires { k < 12 }
-{
-    if k < n {
-        return read::string(read::token(line, k + 1), regs, room, end);
-    }
-    Reading {
-        ok: true,
-        from: 0,
-        end,
-    }
-}
-
-// Whether an arrow stands behind n arguments.
-fn has_arrow(line: &[u8], n: usize) -> bool
-    requires { n < 12 }
-{
-    texts::same(read::token(line, n + 1), b"->")
-}
-
-// Arguments 1 to n of a line, read into the room from its front on; `ok` asks for an arrow behind them.
-pub fn arguments(line: &[u8], n: usize, regs: &[u8], room: &mut [u8]) -> Given
-    requires { n < 12 }
-{
-    let mut ends = [0usize; 12];
-    let mut end = 0;
-    let mut k = 0;
-    while k < 11 {
-        ends[k] = end;
-        let r = one_argument(line, k, n, regs, room, end);
-        if !r.ok {
-            return Given { ok: false, ends };
+impl<'a> Case<'a> {
+    // A line that has n arguments and an arrow behind them, and the room that they leave.
+    pub fn read(
+        line: &'a [u8],
+        n: usize,
+        regs: &'a [u8],
+        room: &'a mut [u8],
+    ) -> Option<(Case<'a>, &'a mut [u8])>
+        requires { n < 12 }
+    {
+        let mut tokens = line.splitn(n + 3, |&b| b == b' ');
+        tokens.next();
+        let mut arguments: Arguments<'a> = [b""; 11];
+        let mut room = room;
+        for argument in &mut arguments[..n] {
+            let length = read::string(tokens.next()?, regs, room)?.len();
+            *argument = room.split_off_mut(..length)?;
         }
-        end = r.end;
-        k += 1;
+        let b"->" = tokens.next()? else {
+            return None;
+        };
+        let told = tokens.next().unwrap_or_default();
+        Some((
+            Case {
+                arguments,
+                told,
+                regs,
+            },
+            room,
+        ))
     }
-    ends[11] = end;
-    let ok = has_arrow(line, n);
-    Given { ok, ends }
+
+    // Token k behind the arrow as a number.
+    pub fn number(self, k: usize) -> u64 {
+        read::number(read::token(self.told, k))
+    }
+
+    // Whether an answer is the refusal, the kind and the numbers behind the arrow: its value, and behind colons the two
+    // numbers more, 0 where they don't stand.
+    pub fn agrees(self, a: Answer) -> bool {
+        let numbers = read::token(self.told, 2);
+        u64::from(a.refusal) == self.number(0)
+            && u64::from(a.kind) == self.number(1)
+            && a.value == read::number(read::field(numbers, 0, b':'))
+            && a.second == read::number(read::field(numbers, 1, b':'))
+            && a.third == read::number(read::field(numbers, 2, b':'))
+    }
+
+    // The bytes that token k behind the arrow stands for.
+    pub fn bytes<'b>(self, k: usize, room: &'b mut [u8]) -> Option<&'b [u8]> {
+        read::string(read::token(self.told, k), self.regs, room)
+    }
+
+    // Whether bytes are those of token k behind the arrow, or, where it is "=", those that were handed in.
+    pub fn tells(self, k: usize, room: &mut [u8], bytes: &[u8], handed_in: &[u8]) -> bool {
+        match read::token(self.told, k) {
+            b"=" => bytes == handed_in,
+            _ => self.bytes(k, room) == Some(bytes),
+        }
+    }
 }
 
-// An argument that says yes, and one that says yes or no: the byte 1, or 0.
-pub fn is_yes(argument: &[u8]) -> bool {
-    texts::same(argument, b"\x01")
+// Whether a call passes on a line that has n arguments; None where the line cannot be read.
+pub fn passes<'a, Call: FnOnce(Case, &mut [u8]) -> bool>(
+    line: &'a [u8],
+    n: usize,
+    regs: &'a [u8],
+    room: &'a mut [u8],
+    call: Call,
+) -> Option<bool>
+    requires few { n < 12 }
+    requires is_always_callable { Call.IsAlwaysCallable call }
+{
+    let (case, room) = Case::read(line, n, regs, room)?;
+    Some(call(case, room))
 }
 
-pub fn is_yes_or_no(argument: &[u8]) -> bool {
-    if is_yes(argument) {
-        return true;
+// An argument that says yes or no: the byte 1, or 0.
+pub fn yes_or_no(argument: &[u8]) -> Option<bool> {
+    match argument {
+        [0] => Some(false),
+        [1] => Some(true),
+        _ => None,
     }
-    texts::same(argument, b"\x00")
 }
 
-// Argument k, counted from 0.
-pub fn argument(room: &[u8], given: Given, k: usize) -> &[u8] {
-    if k < 11 {
-        let ends = given.ends;
-        return read::part(room, ends[k], ends[k + 1]);
-    }
-    read::part(room, 0, 0)
-}
-
-// Whether argument k has four bytes, and these as a number, the low one first.
-pub fn is_four_bytes(room: &[u8], given: Given, k: usize) -> bool {
-    argument(room, given, k).len() == 4
-}
-
-pub fn four_bytes(room: &[u8], given: Given, k: usize) -> u32 {
-    records::u32_at(argument(room, given, k), 0)
-}
-
-// Whether an answer tells the numbers of a token: its value, and behind colons the two numbers more, 0 where they don't stand.
-fn tells(a: Answer, told: &[u8]) -> bool {
-    if a.value != read::number(read::field(told, 0, 58)) {
-        return false;
-    }
-    if a.second != read::number(read::field(told, 1, 58)) {
-        return false;
-    }
-    a.third == read::number(read::field(told, 2, 58))
-}
-
-// Whether an answer is the refusal, the kind and the numbers from token k of a line on.
-pub fn agrees(a: Answer, line: &[u8], k: usize) -> bool {
-    if 100 < k {
-        return false;
-    }
-    if a.refusal as u64 != read::number(read::token(line, k)) {
-        return false;
-    }
-    if a.kind as u64 != read::number(read::token(line, k + 1)) {
-        return false;
-    }
-    tells(a, read::token(line, k + 2))
+// An argument of four bytes as a number, the low one first.
+pub fn four_bytes(argument: &[u8]) -> Option<u32> {
+    Some(u32::from_le_bytes(argument.try_into().ok()?))
 }
 
 // Bytes put at the front of a buffer; how many, none where they are too many.
 pub fn load(out: &mut [u8], bytes: &[u8]) -> usize
     ensures { Counts result out.new }
 {
-    if out.len() < bytes.len() {
-        return 0;
+    match out.get_mut(..bytes.len()) {
+        Some(front) => {
+            front.copy_from_slice(bytes);
+            bytes.len()
+        }
+        None => 0,
     }
-    records::copy_in(out, 0, bytes);
-    bytes.len()
-}
-
-// Whether bytes are those of token k of a line, or, where it is "=", the argument that was handed in.
-pub fn as_told(
-    bytes: &[u8],
-    line: &[u8],
-    k: usize,
-    regs: &[u8],
-    room: &mut [u8],
-    given: Given,
-    last: usize,
-) -> bool {
-    let told = read::token(line, k);
-    if texts::same(told, b"=") {
-        return texts::same(bytes, argument(room, given, last));
-    }
-    let ends = given.ends;
-    let r = read::string(told, regs, room, ends[11]);
-    if r.ok {
-        return texts::same(bytes, read::part(room, ends[11], r.end));
-    }
-    false
 }

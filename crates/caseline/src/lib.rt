@@ -5,8 +5,5 @@
 mod handed;
 mod read;
 
-pub use handed::{
-    Given, agrees, argument, arguments, as_told, four_bytes, is_four_bytes, is_yes, is_yes_or_no,
-    load,
-};
-pub use read::{Reading, find_from, number, part, string, token};
+pub use handed::{Arguments, Case, four_bytes, load, passes, yes_or_no};
+pub use read::{number, string, token};

@@ -5,50 +5,42 @@
 mod entries;
 mod many;
 
-// The number of a call that is run here, 0 for any other name.
-pub fn call_number(name: &[u8]) -> u8 {
-    if texts::same(name, b"check_lexicon") {
-        return 1;
-    }
-    if texts::same(name, b"lookup") {
-        return 2;
-    }
-    if texts::same(name, b"new_store") {
-        return 3;
-    }
-    if texts::same(name, b"add_entry") {
-        return 4;
-    }
-    if texts::same(name, b"add_entries") {
-        return 5;
-    }
-    if texts::same(name, b"damage") {
-        return 6;
-    }
-    if texts::same(name, b"fill") {
-        return 7;
-    }
-    if texts::same(name, b"preview_entries") {
-        return 8;
-    }
-    if texts::same(name, b"accept_entries") {
-        return 9;
-    }
-    0
-}
+use caseline::passes;
+use entries::{
+    accept_entries, add_entries, add_entry, check_lexicon, lookup, new_store, preview_entries,
+};
+use many::{damage, fill};
 
-// A line by the name of its call.
-pub fn run(line: &[u8], regs: &[u8], room: &mut [u8], out: &mut [u8]) -> bool {
-    match call_number(caseline::token(line, 0)) {
-        1 => entries::run_check_lexicon(line, regs, room),
-        2 => entries::run_lookup(line, regs, room, out),
-        3 => entries::run_new_store(line, regs, room, out),
-        4 => entries::run_add_entry(line, regs, room, out),
-        5 => entries::run_add_entries(line, regs, room, out),
-        6 => many::run_damage(line, regs, room, out),
-        7 => many::run_fill(line, regs, room, out),
-        8 => entries::run_preview_entries(line, regs, room, out),
-        9 => entries::run_accept_entries(line, regs, room, out),
-        _ => false,
+// Whether a line passes, by the name of its call; None where that is none of these or the line cannot be read.
+pub fn run(line: &[u8], regs: &[u8], room: &mut [u8], out: &mut [u8]) -> Option<bool> {
+    match caseline::token(line, 0) {
+        b"check_lexicon" => passes(line, 3, regs, room, |case, _| check_lexicon(case)),
+        b"lookup" => passes(line, 7, regs, room, |case, room| lookup(case, room, out)),
+        b"new_store" => passes(line, 1, regs, room, |case, room| new_store(case, room, out)),
+        b"add_entry" => passes(line, 6, regs, room, |case, room| add_entry(case, room, out)),
+        b"add_entries" => passes(
+            line,
+            4,
+            regs,
+            room,
+            |case, room| add_entries(case, room, out),
+        ),
+        b"damage" => passes(line, 6, regs, room, |case, _| damage(case, out)),
+        b"fill" => passes(line, 2, regs, room, |case, _| fill(case, out)),
+        b"preview_entries" => passes(
+            line,
+            4,
+            regs,
+            room,
+            |case, room| preview_entries(case, room, out),
+        ),
+        b"accept_entries" => passes(
+            line,
+            2,
+            regs,
+            room,
+            |case, room| accept_entries(case, room, out),
+        ),
+        _ => None,
     }
 }

@@ -1,121 +1,79 @@
 // The calls of the settings, each with its arguments from a line of cases.
-use answers::{Answer, Settings};
-use caseline::Given;
+use answers::{Refusal, Settings};
+use caseline::{Arguments, Case};
+use values::Setting;
 
-// Whether the version and the show's stretch of a line have four bytes each.
-pub fn are_read_words(room: &[u8], given: Given) -> bool {
-    if caseline::is_four_bytes(room, given, 1) {
-        return caseline::is_four_bytes(room, given, 2);
-    }
-    false
+// What a line hands to read_settings beside the store.
+#[derive(Clone, Copy)]
+pub struct Reader {
+    version: u32,
+    show: f32,
 }
 
-// Whether the version, the kind and the value of a line have four bytes each.
-pub fn are_write_words(room: &[u8], given: Given) -> bool {
-    if !caseline::is_four_bytes(room, given, 1) {
-        return false;
+impl Reader {
+    pub fn of(arguments: &Arguments) -> Option<Reader> {
+        let version = caseline::four_bytes(arguments[1])?;
+        let show = values::real_of(caseline::four_bytes(arguments[2])?);
+        Some(Reader { version, show })
     }
-    if caseline::is_four_bytes(room, given, 3) {
-        return caseline::is_four_bytes(room, given, 4);
+
+    pub fn read(self, settings: &[u8]) -> Settings {
+        answers::told_shown(read_settings::read_settings(settings, self.version, self.show))
     }
-    false
 }
 
-// The answer of read_settings on a store; its other arguments are those of a line, in the order there.
-pub fn shown(room: &[u8], given: Given, settings: &[u8]) -> Settings {
-    let show = values::real_of(caseline::four_bytes(room, given, 2));
-    answers::told_shown(read_settings::read_settings(
-        settings,
-        caseline::four_bytes(room, given, 1),
-        show,
-    ))
-}
-
-// Whether these bits are the four bytes of token k of a line.
-fn are_told(bits: u32, line: &[u8], k: usize, regs: &[u8], room: &mut [u8], given: Given) -> bool {
-    let ends = given.ends;
-    let r = caseline::string(caseline::token(line, k), regs, room, ends[11]);
-    if !r.ok {
-        return false;
-    }
-    let bytes = caseline::part(room, ends[11], r.end);
-    if bytes.len() != 4 {
-        return false;
-    }
-    records::u32_at(bytes, 0) == bits
-}
-
-// Whether an answer of read_settings is what a line tells from token 5 on.
-fn agrees(a: Settings, line: &[u8], regs: &[u8], room: &mut [u8], given: Given) -> bool {
-    if a.refusal as u64 != caseline::number(caseline::token(line, 5)) {
-        return false;
-    }
-    if a.count as u64 != caseline::number(caseline::token(line, 6)) {
-        return false;
-    }
-    if !are_told(values::bits_of_whole(a.pitch), line, 7, regs, room, given) {
-        return false;
-    }
-    if !are_told(values::bits_of_real(a.stretch), line, 8, regs, room, given) {
-        return false;
-    }
-    if !are_told(values::bits_of_whole(a.level), line, 9, regs, room, given) {
-        return false;
-    }
-    are_told(values::bits_of_real(a.rack), line, 10, regs, room, given)
+// Whether these bits are the four bytes of token k behind the arrow.
+fn tells(case: Case, room: &mut [u8], k: usize, bits: u32) -> bool {
+    case.bytes(k, room).and_then(caseline::four_bytes) == Some(bits)
 }
 
 // read_settings SETTINGS VERSION SHOW -> REFUSAL COUNT PITCH STRETCH LEVEL RACK
-pub fn run_read_settings(line: &[u8], regs: &[u8], room: &mut [u8]) -> bool {
-    let given = caseline::arguments(line, 3, regs, room);
-    if !given.ok {
+pub fn read_settings(case: Case, room: &mut [u8]) -> bool {
+    let Some(reader) = Reader::of(&case.arguments) else {
         return false;
-    }
-    if !are_read_words(room, given) {
-        return false;
-    }
-    let a = shown(room, given, caseline::argument(room, given, 0));
-    agrees(a, line, regs, room, given)
+    };
+    let a = reader.read(case.arguments[0]);
+    u64::from(a.refusal) == case.number(0)
+        && u64::from(a.count) == case.number(1)
+        && tells(case, room, 2, values::bits_of_whole(a.pitch))
+        && tells(case, room, 3, values::bits_of_real(a.stretch))
+        && tells(case, room, 4, values::bits_of_whole(a.level))
+        && tells(case, room, 5, values::bits_of_real(a.rack))
 }
 
-// The answer of write_setting on a store; its other arguments are those of a line, in the order there.
-pub fn written(room: &[u8], given: Given, settings: &mut [u8]) -> Answer {
-    let a = write_setting::write_setting(
-        settings,
-        caseline::four_bytes(room, given, 1),
-        caseline::argument(room, given, 2),
-        values::setting_of(
-            caseline::four_bytes(room, given, 3),
-            caseline::four_bytes(room, given, 4),
-        ),
-    );
-    answers::told_done(a)
+// What a line hands to write_setting beside the store.
+#[derive(Clone, Copy)]
+pub struct Writer<'a> {
+    version: u32,
+    name: &'a [u8],
+    value: Setting,
 }
 
-// write_setting with its arguments read and its store loaded
-fn write_setting_on(
-    line: &[u8],
-    regs: &[u8],
-    room: &mut [u8],
-    given: Given,
-    settings: &mut [u8],
-) -> bool {
-    let a = written(room, given, settings);
-    if !caseline::agrees(a, line, 7) {
-        return false;
+impl<'a> Writer<'a> {
+    pub fn of(arguments: &Arguments<'a>) -> Option<Writer<'a>> {
+        let version = caseline::four_bytes(arguments[1])?;
+        let kind = caseline::four_bytes(arguments[3])?;
+        let value = values::setting_of(kind, caseline::four_bytes(arguments[4])?);
+        Some(Writer {
+            version,
+            name: arguments[2],
+            value,
+        })
     }
-    caseline::as_told(settings, line, 10, regs, room, given, 0)
+
+    pub fn write(self, settings: &mut [u8]) -> Result<(), Refusal> {
+        write_setting::write_setting(settings, self.version, self.name, self.value)
+    }
 }
 
 // write_setting SETTINGS VERSION NAME KIND VALUE -> REFUSAL KIND VALUE SETTINGS
-pub fn run_write_setting(line: &[u8], regs: &[u8], room: &mut [u8], out: &mut [u8]) -> bool {
-    let given = caseline::arguments(line, 5, regs, room);
-    if !given.ok {
+pub fn write_setting(case: Case, room: &mut [u8], out: &mut [u8]) -> bool {
+    let Some(writer) = Writer::of(&case.arguments) else {
         return false;
-    }
-    if !are_write_words(room, given) {
-        return false;
-    }
-    let n = caseline::load(out, caseline::argument(room, given, 0));
-    write_setting_on(line, regs, room, given, &mut out[..n])
+    };
+    let before = case.arguments[0];
+    let n = caseline::load(out, before);
+    let settings = &mut out[..n];
+    let a = writer.write(settings);
+    case.agrees(answers::told_done(a)) && case.tells(3, room, settings, before)
 }

@@ -5,30 +5,35 @@
 mod calls;
 mod damage;
 
-// The number of a call that is run here, 0 for any other name.
-pub fn call_number(name: &[u8]) -> u8 {
-    if texts::same(name, b"read_settings") {
-        return 1;
-    }
-    if texts::same(name, b"write_setting") {
-        return 2;
-    }
-    if texts::same(name, b"damage_read_settings") {
-        return 3;
-    }
-    if texts::same(name, b"damage_write_setting") {
-        return 4;
-    }
-    0
-}
+use calls::{read_settings, write_setting};
+use caseline::passes;
+use damage::{damage_read_settings, damage_write_setting};
 
-// A line by the name of its call.
-pub fn run(line: &[u8], regs: &[u8], room: &mut [u8], out: &mut [u8]) -> bool {
-    match call_number(caseline::token(line, 0)) {
-        1 => calls::run_read_settings(line, regs, room),
-        2 => calls::run_write_setting(line, regs, room, out),
-        3 => damage::run_damage_read_settings(line, regs, room, out),
-        4 => damage::run_damage_write_setting(line, regs, room, out),
-        _ => false,
+// Whether a line passes, by the name of its call; None where that is none of these or the line cannot be read.
+pub fn run(line: &[u8], regs: &[u8], room: &mut [u8], out: &mut [u8]) -> Option<bool> {
+    match caseline::token(line, 0) {
+        b"read_settings" => passes(line, 3, regs, room, |case, room| read_settings(case, room)),
+        b"write_setting" => passes(
+            line,
+            5,
+            regs,
+            room,
+            |case, room| write_setting(case, room, out),
+        ),
+        b"damage_read_settings" => passes(
+            line,
+            3,
+            regs,
+            room,
+            |case, room| damage_read_settings(case, room, out),
+        ),
+        b"damage_write_setting" => passes(
+            line,
+            6,
+            regs,
+            room,
+            |case, room| damage_write_setting(case, room, out),
+        ),
+        _ => None,
     }
 }

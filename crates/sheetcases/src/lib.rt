@@ -5,38 +5,37 @@
 mod many_sheets;
 mod sheets;
 
-// The number of a call that is run here, 0 for any other name.
-pub fn call_number(name: &[u8]) -> u8 {
-    if texts::same(name, b"new_sheet") {
-        return 1;
-    }
-    if texts::same(name, b"phone_string") {
-        return 2;
-    }
-    if texts::same(name, b"say_word") {
-        return 3;
-    }
-    if texts::same(name, b"damage_phone_string") {
-        return 4;
-    }
-    if texts::same(name, b"damage_say_word") {
-        return 5;
-    }
-    if texts::same(name, b"fill_sheet") {
-        return 6;
-    }
-    0
-}
+use caseline::passes;
+use many_sheets::{damage_phone_string, damage_say_word, fill_sheet};
+use sheets::{new_sheet, phone_string, say_word};
 
-// A line by the name of its call.
-pub fn run(line: &[u8], regs: &[u8], room: &mut [u8], out: &mut [u8]) -> bool {
-    match call_number(caseline::token(line, 0)) {
-        1 => sheets::run_new_sheet(line, regs, room, out),
-        2 => sheets::run_phone_string(line, regs, room, out),
-        3 => sheets::run_say_word(line, regs, room, out),
-        4 => many_sheets::run_damage_phone_string(line, regs, room, out),
-        5 => many_sheets::run_damage_say_word(line, regs, room, out),
-        6 => many_sheets::run_fill_sheet(line, regs, room, out),
-        _ => false,
+// Whether a line passes, by the name of its call; None where that is none of these or the line cannot be read.
+pub fn run(line: &[u8], regs: &[u8], room: &mut [u8], out: &mut [u8]) -> Option<bool> {
+    match caseline::token(line, 0) {
+        b"new_sheet" => passes(line, 2, regs, room, |case, room| new_sheet(case, room, out)),
+        b"phone_string" => passes(
+            line,
+            2,
+            regs,
+            room,
+            |case, room| phone_string(case, room, out),
+        ),
+        b"say_word" => passes(line, 10, regs, room, |case, room| say_word(case, room, out)),
+        b"damage_phone_string" => passes(
+            line,
+            2,
+            regs,
+            room,
+            |case, room| damage_phone_string(case, room, out),
+        ),
+        b"damage_say_word" => passes(
+            line,
+            11,
+            regs,
+            room,
+            |case, room| damage_say_word(case, room, out),
+        ),
+        b"fill_sheet" => passes(line, 10, regs, room, |case, _| fill_sheet(case, out)),
+        _ => None,
     }
 }
