@@ -1,6 +1,6 @@
 -- 02, S-12: what an accepted write leaves. The chain is sound, the named setting has the value handed in, and every other setting has the value it had.
 -- Assumes nothing.
-use Rattle.std.specs.Prelude.{ℕ, ◌<◌, ◌≡◌, refl, ◌≢◌, true, false, not, ◌&&◌, ◌||◌, List, [], ◌∷◌, eqb}
+use Rattle.std.specs.Prelude.{ℕ, Option, Some, None, ◌<◌, ◌≡◌, refl, ◌≢◌, true, false, not, ◌&&◌, ◌||◌, List, [], ◌∷◌, eqb}
 use Rattle.std.proofs.Common.{sym, ◌∙◌, ne_eqb}
 use Rattle.std.proofs.Math.Path.{ap}
 use Rattle.std.specs.Float.{nan, binary32}
@@ -11,8 +11,8 @@ use Rattle.records.specs.Fields.{u32_at, put32}
 use Rattle.values.specs.declared.Setting.{Setting}
 use Rattle.values.specs.declared.Setting.TheVariants.{Whole, Real}
 use Rattle.values.specs.declared.Known.{Known}
-use Rattle.values.specs.declared.Known.TheVariants.{Pitch, Stretch, Level, Other}
-use Rattle.values.specs.Values.{whole_of, setting_of, fits, known_as, is_known}
+use Rattle.values.specs.declared.Known.TheVariants.{Pitch, Stretch, Level}
+use Rattle.values.specs.Values.{whole_of, setting_of, fits, fits_known, known_as, is_known}
 use Rattle.values.specs.Laws.Bits.{nan_never}
 use Rattle.settings_spec.specs.Settings.{name_at, kind_at, value_at, order, is_sound, named, record_of, value_of, pitch_of, stretch_of, level_of, all_fit}
 use Rattle.settings_spec.proofs.Written.{written_sound, written_here, written_other}
@@ -29,36 +29,35 @@ named_name b name (i ∷ is) h =
     (λ e. let g : named b name is ≢ 0 = rw e at h in let ih = named_name b name is g in rw e ih)
 
 -- a setting has one kind
-unfoldable of_kind : Known → ℕ → Setting
-of_kind Pitch m = Whole (whole_of m)
-of_kind Stretch m = Real (of_bits binary32 m)
-of_kind Level m = Whole (whole_of m)
-of_kind Other m = Real nan
+unfoldable of_kind : Option Known → ℕ → Setting
+of_kind (Some Pitch) m = Whole (whole_of m)
+of_kind (Some Stretch) m = Real (of_bits binary32 m)
+of_kind (Some Level) m = Whole (whole_of m)
+of_kind None m = Real nan
 
-kind_of : (known : Known) (kind n m : ℕ) → fits known (setting_of kind n) ≡ true → setting_of kind m ≡ of_kind known m
+kind_of : (known : Option Known) (kind n m : ℕ) → fits_known known (setting_of kind n) ≡ true → setting_of kind m ≡ of_kind known m
 unfolding setting_of of_kind
-kind_of known kind n m h =
+kind_of None kind n m h = never false h refl
+kind_of (Some known) kind n m h =
     cases (eqb kind 1)
     (λ e. let g : fits known (Whole (whole_of n)) ≡ true = rw e at h in rw e (whole known g))
     (λ e. cases (eqb kind 2)
     (λ d. let g : fits known (Real (of_bits binary32 n)) ≡ true = rw (e, d) at h in rw (e, d) (real known g))
     (λ d. let g : fits known (Real nan) ≡ true = rw (e, d) at h in never (fits known (Real nan)) g (nan_never known)))
   where
-    whole : (k : Known) → fits k (Whole (whole_of n)) ≡ true → Whole (whole_of m) ≡ of_kind k m
+    whole : (k : Known) → fits k (Whole (whole_of n)) ≡ true → Whole (whole_of m) ≡ of_kind (Some k) m
     whole Pitch g = refl
     whole Stretch g = never false g refl
     whole Level g = refl
-    whole Other g = never false g refl
 
-    real : (k : Known) → fits k (Real (of_bits binary32 n)) ≡ true → Real (of_bits binary32 m) ≡ of_kind k m
+    real : (k : Known) → fits k (Real (of_bits binary32 n)) ≡ true → Real (of_bits binary32 m) ≡ of_kind (Some k) m
     real Pitch g = never false g refl
     real Stretch g = refl
     real Level g = never false g refl
-    real Other g = never false g refl
 
 -- what a known setting is now fits it
 present : (v : ℕ) (b name : List ℕ) → is_known (known_as v name) ≡ true → record_of b name ≢ 0 → all_fit v b ≡ true
-    → fits (known_as v name) (setting_of (kind_at b (record_of b name)) (u32_at b (value_at (record_of b name)))) ≡ true
+    → fits_known (known_as v name) (setting_of (kind_at b (record_of b name)) (u32_at b (value_at (record_of b name)))) ≡ true
 unfolding known_as all_fit pitch_of stretch_of level_of value_of
 present v b name k r a =
     let s = both_true (fits Pitch (pitch_of b) && fits Stretch (stretch_of b)) (not (eqb v 2) || fits Level (level_of b)) a in

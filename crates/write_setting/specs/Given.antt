@@ -6,7 +6,7 @@ use Rattle.std.proofs.lemmas.Bool.{eqb-false, not-true}
 use Rattle.texts.specs.Choice.{cases, never, both_true}
 use Rattle.answers.specs.Told.{written}
 use Rattle.values.specs.declared.Setting.{Setting}
-use Rattle.values.specs.Values.{setting_of, fits, known_as, is_known}
+use Rattle.values.specs.Values.{setting_of, fits_known as fits, known_as, is_known}
 use Rattle.values.specs.Laws.Bits.{fit_bits}
 use Rattle.records.specs.Fields.{put32}
 use Rattle.settings_spec.specs.Settings.{is_sound, record_of, value_at, all_fit, store_refusal}

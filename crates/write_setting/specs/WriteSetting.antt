@@ -6,7 +6,7 @@ use Rattle.records.specs.Fields.{put32}
 use Rattle.answers.specs.declared.Answer.{Answer}
 use Rattle.answers.specs.Told.{refused, accepted, written}
 use Rattle.values.specs.declared.Setting.{Setting}
-use Rattle.values.specs.Values.{fits, known_as, is_known, bits_of}
+use Rattle.values.specs.Values.{fits_known as fits, known_as, is_known, bits_of}
 use Rattle.settings_spec.specs.Settings.{record_of, value_at, all_fit, store_refusal}
 
 -- behind 2, 15 and a store's own 16: a setting that is unknown or without a record, and then 17

@@ -14,29 +14,29 @@ use answers::Refusal;
 use values::Setting;
 
 // Puts a value into the record of a name, in a store that is sound.
+#[tactic(auto, using(crate::specs::Laws::Ways::ways, settings_spec::proofs::Sound::found_inside), unfolding(crate::specs::WriteSetting::written_if))]
 fn put(settings: &mut [u8], version: u32, name: &[u8], value: Setting) -> Result<(), Refusal>
     requires { is_sound settings.old ≡ true }
     ensures result_value { told_done result ≡ written_if version settings.old name.now value }
     ensures settings_after { settings.new ≡ written (written_if version settings.old name.now value) settings.old (put32 settings.old (value_at (record_of settings.old name.now)) (bits_of value)) }
 {
-    let known = values::which(version, name);
-    if !values::is_known(known) {
+    let Some(known) = values::which(version, name) else {
         return Err(Refusal::Records);
-    }
-    let i = settings::record_of(settings, name);
-    if i == 0 {
+    };
+    let Some(i) = settings::record_of(settings, name) else {
         return Err(Refusal::Records);
-    }
+    };
     if !settings::all_fit(settings, version) {
         return Err(Refusal::Range);
     }
     if !values::fits(known, value) {
         return Err(Refusal::Range);
     }
-    records::put_u32(settings, 32 * i + 19, values::bits_of(value));
+    records::put_u32(settings, settings::at(i) + 19, values::bits_of(value));
     Ok(())
 }
 
+#[tactic(auto, using(crate::specs::Laws::Ways::writes, sound_settings::specs::Laws::Checked::none_refused, sound_settings::specs::Laws::Checked::sound_checked))]
 pub fn write_setting(
     settings: &mut [u8],
     version: u32,

@@ -6,7 +6,7 @@ use Rattle.records.specs.Fields.{put32}
 use Rattle.answers.specs.declared.Refusal.{Refusal}
 use Rattle.answers.specs.Told.{refusal_number, refused, accepted, written}
 use Rattle.values.specs.declared.Setting.{Setting}
-use Rattle.values.specs.Values.{fits, known_as, is_known, bits_of}
+use Rattle.values.specs.Values.{fits_known as fits, known_as, is_known, bits_of}
 use Rattle.settings_spec.specs.Settings.{record_of, value_at, all_fit, store_refusal}
 use Rattle.sound_settings.specs.Laws.Checked.{refused_test}
 use Rattle.write_setting.specs.WriteSetting.{written_if, write_setting, settings_after}
@@ -49,3 +49,7 @@ module _ (v : ℕ) (b : List ℕ) where
       × (written (written_if v b name value) b (put32 b (value_at (record_of b name)) (bits_of value)) ≡ settings_after v b name value)
   unfolding write_setting settings_after
   write_accepted name value h = let e = eq-eqb (store_refusal v b) 0 h in (rw e, rw e)
+
+pub ruleset ways = (not_known, no_record, unfit, wrong, right)
+
+pub ruleset writes = (write_refused, write_accepted)
