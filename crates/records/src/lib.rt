@@ -43,11 +43,13 @@ pub fn u16_in(s: &[u8], k: usize) -> u16
 pub fn u16_at(s: &[u8], k: usize) -> u16
     ensures { result ≡ u16_at s.now k }
 {
-    let s = tail(s, k);
-    if s.len() < 2 {
-        return u16::from(byte_at(s, 0));
+    if s.len() <= k {
+        return 0;
     }
-    u16_in(s, 0)
+    if k + 1 < s.len() {
+        return u16_in(s, k);
+    }
+    u16::from(s[k])
 }
 
 // The u32 at k, all four bytes of which are inside: one load.
@@ -91,11 +93,13 @@ pub fn are_zeros(s: &[u8]) -> bool
 pub fn u32_at(s: &[u8], k: usize) -> u32
     ensures { result ≡ u32_at s.now k }
 {
-    let s = tail(s, k);
-    if s.len() < 4 {
-        return u32::from_le_bytes([byte_at(s, 0), byte_at(s, 1), byte_at(s, 2), 0]);
+    if s.len() <= k {
+        return 0;
     }
-    u32_in(s, 0)
+    if k + 3 < s.len() {
+        return u32_in(s, k);
+    }
+    u32::from_le_bytes([s[k], byte_at(s, k + 1), byte_at(s, k + 2), 0])
 }
 
 // v at k.
