@@ -18,7 +18,7 @@ fn is_good(lexicon: &Lexicon, i: usize) -> bool
     requires { i < count lexicon.now.index.now }
     ensures { result ≡ is_good lexicon.now.table.bytes.now lexicon.now.index.now lexicon.now.entries.now i }
 {
-    let s = lexicon.entry(i);
+    let s = lexicon.entry_in(i);
     compiled::is_whole(s) && lexicon.is_spoken(s)
 }
 
@@ -34,8 +34,8 @@ fn rises(lexicon: &Lexicon, i: usize) -> bool
     requires { (0 < i) × (i < count lexicon.now.index.now) }
     ensures { result ≡ rises_at lexicon.now.index.now lexicon.now.entries.now (i - 1) }
 {
-    let before = compiled::word(lexicon.entry(i - 1));
-    !texts::smaller(compiled::word(lexicon.entry(i)), before)
+    let before = compiled::word(lexicon.entry_in(i - 1));
+    !texts::smaller(compiled::word(lexicon.entry_in(i)), before)
 }
 
 fn all_rise(lexicon: &Lexicon) -> bool

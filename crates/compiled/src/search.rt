@@ -17,7 +17,7 @@ impl<'a> Lexicon<'a> {
         // A `while`: each turn halves what is left.
         while lo < hi {
             let mid = (lo + hi) / 2;
-            let there = entries::whole_word(self.entry(mid))?;
+            let there = entries::whole_word(self.entry_in(mid))?;
             if texts::smaller(there, word) {
                 lo = mid + 1;
             } else {

@@ -45,8 +45,20 @@ impl<'a> Lexicon<'a> {
     }
 
     // Entry i: the bytes from its offset on.
-    #[tactic(auto, unfolding(compiled_spec::specs::Entries::entry_at), using(compiled_spec::proofs::Lexicon::index_room))]
+    #[tactic(auto, unfolding(compiled_spec::specs::Entries::entry_at))]
     pub fn entry(&self, i: usize) -> &'a [u8]
+        requires { i < 2 ^ 61 }
+        ensures { result.now ≡ entry_at self.now.index.now self.now.entries.now i }
+    {
+        records::tail(
+            self.entries,
+            records::u32_at(self.index, 4 + 4 * i) as usize,
+        )
+    }
+
+    // Entry i, whose offset lies inside the index.
+    #[tactic(auto, unfolding(compiled_spec::specs::Entries::entry_at), using(compiled_spec::proofs::Lexicon::index_room))]
+    pub fn entry_in(&self, i: usize) -> &'a [u8]
         requires { i < count self.now.index.now }
         ensures { result.now ≡ entry_at self.now.index.now self.now.entries.now i }
     {

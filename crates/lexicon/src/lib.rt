@@ -147,7 +147,7 @@ fn give_compiled(
     match lexicon.choose(word, tag) {
         Err(Damaged) => Err(Refusal::Damaged),
         Ok(None) => Ok(None),
-        Ok(Some(i)) => give_spoken(lexicon, lexicon.entry(i), out),
+        Ok(Some(i)) => give_spoken(lexicon, lexicon.entry_in(i), out),
     }
 }
 
