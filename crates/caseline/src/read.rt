@@ -43,8 +43,11 @@ fn cut(text: &[u8], by: u8) -> (&[u8], &[u8])
     (front, back.get(1..).unwrap_or_default())
 }
 
-// Bytes put into a room from a place on; where they end.
+// Bytes put into a room from a place on, which is inside; where they end.
 fn put(room: &mut [u8], at: usize, bytes: &[u8]) -> Option<usize> {
+    if room.len() <= at {
+        return None;
+    }
     let end = at.checked_add(bytes.len())?;
     room.get_mut(at..end)?.copy_from_slice(bytes);
     Some(end)

@@ -11,15 +11,23 @@ fn run_lines(rt: &impl Print, name: &str, file: &[u8]) -> io::Result<()> {
     let mut room = [0; 262144];
     let mut out = [0; 262144];
     let mut passed = 0u64;
+    let mut failed = 0usize;
     for (k, line) in file.split(|&b| b == b'\n').enumerate() {
         match run_line(line, &mut regs, &mut room, &mut out) {
             None => {}
             // Tried: the proof of `+= 1` needs an invariant, which the check cannot read at an iterator in a generic function.
             Some(true) => passed = passed.saturating_add(1),
-            Some(false) => println!(rt; "{name}: line {} failed", k + 1)?,
+            Some(false) => {
+                failed = failed.saturating_add(1);
+                println!(rt; "{name}: line {} failed", k + 1)?
+            }
         }
     }
-    println!(rt; "{name}: {passed} passed")
+    // An empty file and a byte that fails are told no count.
+    if failed < file.len() {
+        println!(rt; "{name}: {passed} passed")?;
+    }
+    Ok(())
 }
 
 // A file that cannot be read is told on standard error.
