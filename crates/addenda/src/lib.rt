@@ -93,7 +93,10 @@ fn is_meant(row: &[u8; 41], word: &[u8], tag: u8) -> bool
 fn may_be_sign(b: u8) -> bool
     ensures { result ≡ false → is_start 1 b ≡ false }
 {
-    !b.is_ascii_alphanumeric()
+    match b {
+        b'0'..=b'9' | b'A'..=b'Z' | b'a'..=b'z' => false,
+        _ => true,
+    }
 }
 
 // Whether a row's word may have this length and first byte.
