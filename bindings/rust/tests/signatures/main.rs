@@ -339,10 +339,18 @@ fn constant(name: &str) -> String {
     constant
 }
 
+/// The cases of an enum of the Rattle source, each with its number.
+fn cases(kind: &str) -> Vec<String> {
+    let source = answers();
+    let (_, behind) = source.split_once(&format!("pub enum {kind} {{\n")).expect(kind);
+    let (inside, _) = behind.split_once("\n}").expect(kind);
+    inside.lines().map(|line| line.trim().to_string()).collect()
+}
+
 /// Sees that a case of an enum has one number in the Rattle source, in the header and here.
 fn same_number(kind: &str, case: &str, number: u32) {
-    let row = format!("{kind}::{case} => {number},");
-    assert!(answers().contains(&row), "the source lacks {row}");
+    let row = format!("{case} = {number},");
+    assert!(cases(kind).contains(&row), "the source's {kind} lacks {row}");
     same_in_header(case, number);
 }
 
@@ -380,7 +388,7 @@ fn numbers_are_the_sources() {
         assert_eq!(refusal.number(), number);
         same_number("Refusal", &format!("{refusal:?}"), number);
     }
-    assert_eq!(answers().matches("Refusal::").count(), refusals.len());
+    assert_eq!(cases("Refusal").len(), refusals.len());
     for source in [Source::Runtime, Source::Addenda, Source::Compiled] {
         same_number("Source", &format!("{source:?}"), source.number());
     }
