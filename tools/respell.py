@@ -1,5 +1,5 @@
 #!/usr/bin/env python3
-"""Spells the repository's own definitions and lemmas in snake case, once, behind /opt/rattle/port/port.py.
+"""Spells the repository's own definitions and lemmas in snake case, once, behind the kit's port.py.
 
 usage: tools/respell.py [--names FOLDER]   at the top of the repository; --names: take the names from that copy of it
 
