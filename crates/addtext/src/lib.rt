@@ -39,7 +39,7 @@ fn fill_spare(table: &[u8], store: &[u8], spare: &mut [u8], text: &[u8]) -> Resu
     ensures result_value { told_lines result ≡ (text_filled table.now store.now text.now).answer }
     ensures spare_after { spare.new ≡ spare_filled (text_filled table.now store.now text.now) }
 {
-    spare.copy_from_slice(store);
+    records::copy(spare, store);
     let filled = add_lines(table, spare, text);
     if filled.is_err() {
         counting::set_count(spare, counting::largest());

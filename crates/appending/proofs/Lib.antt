@@ -1,1 +1,1 @@
-mod Spans
+pub mod Spans

@@ -107,16 +107,18 @@ fn repeat(room: &mut [u8], from: usize, to: usize, n: u64) -> Option<usize> {
     if n == 0 {
         return Some(from);
     }
-    let (before, behind) = room.split_at_mut_checked(to)?;
-    let piece = before.get(from..)?;
-    if 65536 < piece.len() || 16777216 < n {
+    let width = to.checked_sub(from)?;
+    if 65536 < width || 16777216 < n {
         return None;
     }
-    let mut at = 0;
-    for _ in 1..n {
-        at = put(behind, at, piece)?;
+    let end = to.checked_add(width * (n - 1) as usize)?;
+    if room.len() < end {
+        return None;
     }
-    to.checked_add(at)
+    for i in to..end {
+        room[i] = room[i - width];
+    }
+    Some(end)
 }
 
 // One piece, with how often it stands in front of it.
@@ -131,10 +133,13 @@ fn item<'a>(text: &'a [u8], regs: &[u8], room: &mut [u8], at: usize) -> Option<(
     Some((rest, repeat(room, at, end, number(n))?))
 }
 
-// A byte string, put at the front of a room.
+// A byte string, put at the front of a room; a token of over 1,000,000,000 bytes is none.
 pub fn string<'a>(token: &[u8], regs: &[u8], room: &'a mut [u8]) -> Option<&'a [u8]> {
     let mut end = 0;
     if !token.starts_with(b".") {
+        if 1000000000 < token.len() {
+            return None;
+        }
         let mut text = token;
         while !text.is_empty() {
             (text, end) = item(text, regs, room, end)?;

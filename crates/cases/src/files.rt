@@ -3,7 +3,7 @@ use crate::run::run_line;
 use std::rt::{Env, Files};
 use std::{env, fs, io};
 
-// Every line of a file of cases: each that failed is told, and then how many passed.
+// Every line of a file of cases: each that failed is told, and then how many passed. Lines and cases are counted to 1,000,000,000.
 fn run_lines(rt: &impl Print, name: &str, file: &[u8]) -> io::Result<()> {
     // eight registers of 8,192 bytes; room for what a line hands in and expects, and for what its call writes: four
     // times the longest store
@@ -15,11 +15,11 @@ fn run_lines(rt: &impl Print, name: &str, file: &[u8]) -> io::Result<()> {
     for (k, line) in file.split(|&b| b == b'\n').enumerate() {
         match run_line(line, &mut regs, &mut room, &mut out) {
             None => {}
-            // Tried: the proof of `+= 1` needs an invariant, which the check cannot read at an iterator in a generic function.
-            Some(true) => passed = passed.saturating_add(1),
+            Some(true) if passed < 1000000000 => passed += 1,
+            Some(true) => {}
             Some(false) => {
                 failed = failed.saturating_add(1);
-                println!(rt; "{name}: line {} failed", k + 1)?
+                println!(rt; "{name}: line {} failed", (k + 1).min(1000000000))?
             }
         }
     }

@@ -33,6 +33,6 @@ pub fn take_spare(store: &mut [u8], spare: &[u8])
     requires { (512 ≤ length store.old) × (length spare.now ≡ length store.old) × (count_of spare.now ≢ largest_count) }
     ensures { store.new ≡ with_count spare.now (count_of spare.now + 1) }
 {
-    store.copy_from_slice(spare);
+    records::copy(store, spare);
     set_count(store, count(spare) + 1);
 }

@@ -32,10 +32,11 @@ pub fn read_table(s: &[u8], places: &mut [u16]) -> bool
         return false;
     }
     for place in &mut places[..n] {
-        *place = strings.position() as u16;
+        let position = strings.position() as u16;
         if strings.read_string().is_none() {
             return false;
         }
+        *place = position;
     }
     texts::is_ascii(&s[4..strings.position()])
 }
@@ -49,19 +50,18 @@ pub fn is_phone_table(s: &[u8]) -> bool
 }
 
 // How many phones a table has.
-#[tactic(auto, using(crate::specs::Sections::table_count))]
 pub fn table_count(s: &[u8]) -> usize
     requires { is_phone_table s.now ≡ true }
     ensures { (result ≡ u32_at s.now 0) × (result ≤ 256) }
 {
-    count(s)
+    Reader::new(s).read_number().unwrap()
 }
 
 // A phone table, and where each of its phones stands in it.
 #[derive(Clone, Copy)]
 pub struct Table<'a> {
     pub bytes: &'a [u8],
-    places: &'a [u16; 256],
+    pub places: &'a [u16; 256],
     ghost is_table: { is_phone_table bytes.now ≡ true },
     ghost placed: { take (u32_at bytes.now 0) places.now ≡ places_of (u32_at bytes.now 0) bytes.now 4 },
 }

@@ -1,2 +1,2 @@
 pub mod Walk
-mod ByPlace
+pub mod ByPlace

@@ -1,2 +1,2 @@
-mod UpTo
-mod ByEnds
+pub mod UpTo
+pub mod ByEnds

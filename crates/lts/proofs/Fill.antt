@@ -40,7 +40,7 @@ module _ (word text : List ℕ) (i : ℕ) (short : length word ≤ 47) (e : text
       ap (λ (t : List ℕ). take (length word + 8) t) s ∙ take_at p more (length word + 8) l ∙ rw (ei, take-length word)
 
 -- four bytes before and four after make eight
-halves : (a b : List ℕ) → length a ≡ 4 → length b ≡ 4 → put_mid 4 4 (a ++ (0 ∷ 0 ∷ 0 ∷ 0 ∷ [])) b ≡ a ++ b
+pub halves : (a b : List ℕ) → length a ≡ 4 → length b ≡ 4 → put_mid 4 4 (a ++ (0 ∷ 0 ∷ 0 ∷ 0 ∷ [])) b ≡ a ++ b
 halves a b ha hb =
     let z : List ℕ = 0 ∷ 0 ∷ 0 ∷ 0 ∷ [] in
     let none : drop 4 (drop 4 (a ++ z)) ≡ [] = drop_of_length-le (drop 4 (a ++ z)) {i = 4} (omega (arith, length-drop 4 (a ++ z), length-append a z)) in

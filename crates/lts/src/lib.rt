@@ -4,6 +4,7 @@
 
 ghost use Rattle.std.specs.Prelude.{◌≡◌, true, false, ◌+◌, ◌*◌, ◌≤◌, ◌<◌, length, take, MatchOption};
 ghost use Rattle.std.proofs.Math.Option.{some};
+ghost use Rattle.texts.specs.Text.{bytes, same};
 ghost use Rattle.answers.specs.Told.{told_predicted};
 ghost use Rattle.lts_spec.specs.Letters.{padded as padded_word, window as window_at, spoken, letter, letters, stopped, is_trees};
 ghost use Rattle.lts.specs.Puts.{Puts, Spells};
@@ -44,12 +45,20 @@ fn window(text: &[u8], k: usize) -> [u8; 8]
     features
 }
 
+// Whether the phone of a leaf is none.
+#[tactic(auto, unfolding(texts::specs::Text::same))]
+fn is_epsilon(phone: &[u8]) -> bool
+    ensures { result ≡ same (bytes "epsilon") phone.now }
+{
+    matches!(phone, b"epsilon")
+}
+
 // The phones of a leaf, put before cell `at` of a list; the first cell of them.
 fn put_leaf(phone: &[u8], list: &mut [u8], at: usize) -> usize
     requires { (length phone.now ≤ 15) × (2 ≤ at) × (16 * at ≤ length list.old) }
     ensures { Puts (some (spoken phone.now)) list.old at (Some result) list.new }
 {
-    if texts::same(phone, b"epsilon") {
+    if is_epsilon(phone) {
         return at;
     }
     let Some(dash) = phone.iter().position(|&b| b == b'-') else {
@@ -150,7 +159,7 @@ impl<'a> Trees<'a> {
         if out.len() < cells.len() {
             return Err(Refusal::Short);
         }
-        out[..cells.len()].copy_from_slice(cells);
+        records::copy(&mut out[..cells.len()], cells);
         let phones = 94 - first;
         Ok(Predicted { phones, stopped })
     }

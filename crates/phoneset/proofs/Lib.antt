@@ -1,2 +1,2 @@
-mod ByNumber
-mod RowNames
+pub mod ByNumber
+pub mod RowNames

@@ -126,12 +126,22 @@ pub fn put_u64(s: &mut [u8], k: usize, v: u64)
     s[k..k + 8].copy_from_slice(&v.to_le_bytes());
 }
 
+// All of src into dst. The library's `copy_from_slice` would have the archive ask for memmove; of this loop the compiler makes memcpy.
+pub fn copy(dst: &mut [u8], src: &[u8])
+    requires { length src.now ≡ length dst.old }
+    ensures { dst.new ≡ src.now }
+{
+    for (j, &b) in src.iter().enumerate() {
+        dst[j] = b;
+    }
+}
+
 // All of src into dst from k on.
 pub fn copy_in(dst: &mut [u8], k: usize, src: &[u8])
     requires { k + length src.now ≤ length dst.old }
     ensures { dst.new ≡ paste dst.old k src.now (length src.now) }
 {
-    dst[k..k + src.len()].copy_from_slice(src);
+    copy(&mut dst[k..k + src.len()], src);
 }
 
 // n zeros into dst from k on.

@@ -46,7 +46,7 @@ pub fn level(settings: &[u8]) -> Setting
 pub fn all_fit(settings: &[u8], version: u32) -> bool
     ensures { result ≡ all_fit version settings.now }
 {
-    values::fits(Known::Pitch, pitch(settings))
-        && values::fits(Known::Stretch, stretch(settings))
-        && (version != 2 || values::fits(Known::Level, level(settings)))
+    values::fits(Some(Known::Pitch), pitch(settings))
+        && values::fits(Some(Known::Stretch), stretch(settings))
+        && (version != 2 || values::fits(Some(Known::Level), level(settings)))
 }

@@ -1,1 +1,1 @@
-mod ByArithmetic
+pub mod ByArithmetic

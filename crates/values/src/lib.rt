@@ -5,7 +5,7 @@
 ghost use Rattle.std.specs.Prelude.{◌≡◌, ◌&&◌};
 ghost use Rattle.std.specs.Float.{binary32};
 ghost use Rattle.std.specs.Float.Ieee.{of_bits, to_bits};
-ghost use Rattle.values.specs.Values.{whole_of, bits_of_whole, setting_of, bits_of, is_stretch, fits as fits_of, known_as, whole_in, real_in};
+ghost use Rattle.values.specs.Values.{whole_of, bits_of_whole, setting_of, bits_of, is_stretch, fits_known, known_as, whole_in, real_in};
 
 use std::num::{f32_from_bits_with_nan, f32_to_bits_with_nan};
 
@@ -82,14 +82,14 @@ pub fn is_stretch(x: f32) -> bool
     (0.25..=4.0).contains(&x)
 }
 
-// Whether a known setting may have this value.
-pub fn fits(known: Known, value: Setting) -> bool
-    ensures { result ≡ fits_of known value }
+// Whether a known setting may have this value; one that is not known takes none.
+pub fn fits(known: Option<Known>, value: Setting) -> bool
+    ensures { result ≡ fits_known known value }
 {
     match (known, value) {
-        (Known::Pitch, Setting::Whole(n)) => (50..=400).contains(&n),
-        (Known::Stretch, Setting::Real(x)) => is_stretch(x),
-        (Known::Level, Setting::Whole(n)) => (0..=100).contains(&n),
+        (Some(Known::Pitch), Setting::Whole(n)) => (50..=400).contains(&n),
+        (Some(Known::Stretch), Setting::Real(x)) => is_stretch(x),
+        (Some(Known::Level), Setting::Whole(n)) => (0..=100).contains(&n),
         _ => false,
     }
 }

@@ -29,7 +29,7 @@ fn put(settings: &mut [u8], version: u32, name: &[u8], value: Setting) -> Result
     if !settings::all_fit(settings, version) {
         return Err(Refusal::Range);
     }
-    if !values::fits(known, value) {
+    if !values::fits(Some(known), value) {
         return Err(Refusal::Range);
     }
     records::put_u32(settings, settings::at(i) + 19, values::bits_of(value));

@@ -24,11 +24,11 @@ set_count-requires c =
     let b = c.args.store.now in
     let l = long (length b) (sound b c.requires.1).size in
     let p = c.requires.2 in
-    omega (arith, l, p, c.add_lines-filled.auto.store, c.copy_from_slice.auto.self)
+    omega (arith, l, p, c.add_lines-filled.auto.store, c.copy.auto.dst)
 
 pub returns-then-is_err-clause-spare_after : goal.returns-then-is_err-clause-spare_after
 returns-then-is_err-clause-spare_after c =
-    let q = ap (λ (s : List ℕ). text_filled c.args.table.now s c.args.text.now) c.copy_from_slice.ensures.after in
+    let q = ap (λ (s : List ℕ). text_filled c.args.table.now s c.args.text.now) c.copy.ensures in
     let f = text_filled c.args.table.now c.args.store.now c.args.text.now in
     let e = c.add_lines-filled.ensures.result_value ∙ ap (λ (g : Filled). g.answer) q in
     let m = c.add_lines-filled.ensures.store_after ∙ ap (λ (g : Filled). g.store) q in
@@ -36,7 +36,7 @@ returns-then-is_err-clause-spare_after c =
 
 pub returns-else-is_err-clause-spare_after : goal.returns-else-is_err-clause-spare_after
 returns-else-is_err-clause-spare_after c =
-    let q = ap (λ (s : List ℕ). text_filled c.args.table.now s c.args.text.now) c.copy_from_slice.ensures.after in
+    let q = ap (λ (s : List ℕ). text_filled c.args.table.now s c.args.text.now) c.copy.ensures in
     let f = text_filled c.args.table.now c.args.store.now c.args.text.now in
     let e = c.add_lines-filled.ensures.result_value ∙ ap (λ (g : Filled). g.answer) q in
     let m = c.add_lines-filled.ensures.store_after ∙ ap (λ (g : Filled). g.store) q in

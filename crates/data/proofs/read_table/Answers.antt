@@ -88,6 +88,6 @@ returns c =
     let e = fit_end s l.strings.pos (n - l.place-index) (omega arith) in
     let front : take n (l.place-items ++ drop n ps) ≡ take n l.place-items = take-append-le n l.place-items (drop n ps) (omega arith) in
     record {
-      value = c.is_ascii.ensures ∙ rw c.position-2.ensures (sym (l.invariant.4 ∙ rw (e.0, e.1)));
+      value = c.is_ascii.ensures ∙ rw c.position.ensures (sym (l.invariant.4 ∙ rw (e.0, e.1)));
       placed = λ _. (omega (arith, length-append l.place-items (drop n ps), length-drop n ps), rw (← r.is) (front ∙ places_end s l.place-items n l.place-index l.strings.pos done l.invariant.5));
     }

@@ -75,7 +75,7 @@ by_length x (v ∷ vs) =
     (λ e. rw (e, ne_same x v (λ q. eqb-false (length v) (length x) e (ap length (sym q)))) ih)
 
 -- "axr" is the only one of three bytes
-vowel_three : (x : List ℕ) → length x ≡ 3 → is_vowel x ≡ same x (bytes "axr")
+pub vowel_three : (x : List ℕ) → length x ≡ 3 → is_vowel x ≡ same x (bytes "axr")
 unfolding vowels phones plus of_length some
 vowel_three x h =
     let e = vowel_listed x ∙ by_length x vowels in
@@ -101,7 +101,7 @@ no_length x (v ∷ vs) h two three =
     let b = both_true (is_two_or_three v) (every is_two_or_three vs) h in
     rw (other_length x v b.0 two three) (no_length x vs b.1 two three)
 
-vowel_other : (x : List ℕ) → (length x ≡ 2 → ⊥) → (length x ≡ 3 → ⊥) → is_vowel x ≡ false
+pub vowel_other : (x : List ℕ) → (length x ≡ 2 → ⊥) → (length x ≡ 3 → ⊥) → is_vowel x ≡ false
 unfolding vowels phones plus every
 vowel_other x two three = vowel_listed x ∙ no_length x vowels refl two three
 

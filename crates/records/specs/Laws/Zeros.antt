@@ -64,11 +64,11 @@ module _ (b : List ℕ) where
       omega (arith, low, high)
 
   -- eight more are zero
-  zeros_turn : (k : ℕ) → ZeroBelow b k → u64_at b k ≡ 0 → ZeroBelow b (k + 8)
+  pub zeros_turn : (k : ℕ) → ZeroBelow b k → u64_at b k ≡ 0 → ZeroBelow b (k + 8)
   zeros_turn k h z j u = cases (ltb j k) (λ e. h j (ltb-true j k e)) (λ e. eight_zero k z j (ltb-false j k e) u)
 
   -- one of eight is not
-  zeros_stop : (k : ℕ) → (u64_at b k ≡ 0 → ⊥) → every (is 0) b ≡ false
+  pub zeros_stop : (k : ℕ) → (u64_at b k ≡ 0 → ⊥) → every (is 0) b ≡ false
   zeros_stop k n = is_false (every (is 0) b) (λ e. n (zero_eight k (λ j l. every_zero b e j)))
 
   -- the last eight decide

@@ -17,4 +17,4 @@ returns-clause-out_after c =
     found _ _ a.list.now p.new.list p.result s c.requires.1 (omega (arith, p.auto.list, c.requires.1)) p.ensures is in
     let cells = part_from (16 * s.first) p.new.list ∙ f.cells in
     let room = le-ltb (length a.out.now) (16 * length f.phones) (omega (arith, ap (λ (l : List ℕ). length l) cells, f.size)) in
-    rw (f.is, room) (rw (c.copy_from_slice.ensures.after, cells, f.size))
+    rw (f.is, room) (rw (c.copy.ensures, cells, f.size))
