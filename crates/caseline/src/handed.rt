@@ -1,5 +1,5 @@
 // A line of cases as a call, its arguments, and what it tells behind the arrow; comparing what the call gave back with that.
-ghost use Rattle.std.specs.Prelude.{◌<◌};
+ghost use Rattle.std.specs.Prelude.{◌≡◌, ◌<◌, IfSome};
 ghost use Rattle.caseline.specs.Counts.{Counts};
 
 use crate::read;
@@ -14,6 +14,7 @@ pub struct Case<'a> {
     pub arguments: Arguments<'a>,
     told: &'a [u8],
     regs: &'a [u8],
+    longest: usize,
 }
 
 impl<'a> Case<'a> {
@@ -25,13 +26,28 @@ impl<'a> Case<'a> {
         room: &'a mut [u8],
     ) -> Option<(Case<'a>, &'a mut [u8])>
         requires { n < 12 }
+        ensures { IfSome result (λ r. r.0.longest ≡ 18446744073709551615) }
+    {
+        Case::read_within(line, n, regs, room, usize::MAX)
+    }
+
+    // The same, with the longest token that is read as bytes, of those behind the arrow too; one that begins with a dot may be longer.
+    pub fn read_within(
+        line: &'a [u8],
+        n: usize,
+        regs: &'a [u8],
+        room: &'a mut [u8],
+        longest: usize,
+    ) -> Option<(Case<'a>, &'a mut [u8])>
+        requires { n < 12 }
+        ensures { IfSome result (λ r. r.0.longest ≡ longest) }
     {
         let mut tokens = line.splitn(n + 3, |&b| b == b' ');
         tokens.next();
         let mut arguments: Arguments<'a> = [b""; 11];
         let mut room = room;
         for argument in &mut arguments[..n] {
-            let length = read::string(tokens.next()?, regs, room)?.len();
+            let length = read::string_within(tokens.next()?, regs, room, longest)?.len();
             *argument = room.split_off_mut(..length)?;
         }
         let b"->" = tokens.next()? else {
@@ -43,6 +59,7 @@ impl<'a> Case<'a> {
                 arguments,
                 told,
                 regs,
+                longest,
             },
             room,
         ))
@@ -66,7 +83,7 @@ impl<'a> Case<'a> {
 
     // The bytes that token k behind the arrow stands for.
     pub fn bytes<'b>(self, k: usize, room: &'b mut [u8]) -> Option<&'b [u8]> {
-        read::string(read::token(self.told, k), self.regs, room)
+        read::string_within(read::token(self.told, k), self.regs, room, self.longest)
     }
 
     // Whether bytes are those of token k behind the arrow, or, where it is "=", those that were handed in.
@@ -89,7 +106,22 @@ pub fn passes<'a, Call: FnOnce(Case, &mut [u8]) -> bool>(
     requires few { n < 12 }
     requires is_always_callable { Call.IsAlwaysCallable call }
 {
-    let (case, room) = Case::read(line, n, regs, room)?;
+    passes_within(line, n, regs, room, usize::MAX, call)
+}
+
+// The same, with the longest token that is read as bytes; one that begins with a dot may be longer.
+pub fn passes_within<'a, Call: FnOnce(Case, &mut [u8]) -> bool>(
+    line: &'a [u8],
+    n: usize,
+    regs: &'a [u8],
+    room: &'a mut [u8],
+    longest: usize,
+    call: Call,
+) -> Option<bool>
+    requires few { n < 12 }
+    requires is_always_callable { Call.IsAlwaysCallable call }
+{
+    let (case, room) = Case::read_within(line, n, regs, room, longest)?;
     Some(call(case, room))
 }
 

@@ -1,5 +1,5 @@
 // Tokens, numbers and byte strings of a line of cases.
-ghost use Rattle.std.specs.Prelude.{◌≤◌, ◌<◌, length, IfSome};
+ghost use Rattle.std.specs.Prelude.{◌≡◌, ◌≤◌, ◌<◌, length, get_or, IfSome};
 
 // Field k of a text that a byte parts, counted from 0; empty where there is none.
 pub fn field(text: &[u8], k: usize, by: u8) -> &[u8] {
@@ -133,11 +133,23 @@ fn item<'a>(text: &'a [u8], regs: &[u8], room: &mut [u8], at: usize) -> Option<(
     Some((rest, repeat(room, at, end, number(n))?))
 }
 
-// A byte string, put at the front of a room; a token of over 1,000,000,000 bytes is none.
+// A byte string, put at the front of a room.
 pub fn string<'a>(token: &[u8], regs: &[u8], room: &'a mut [u8]) -> Option<&'a [u8]> {
+    string_within(token, regs, room, usize::MAX)
+}
+
+// The same; a token longer than `longest` is none, but for those that begin with a dot.
+pub fn string_within<'a>(
+    token: &[u8],
+    regs: &[u8],
+    room: &'a mut [u8],
+    longest: usize,
+) -> Option<&'a [u8]>
+    ensures { IfSome result (λ _. longest < length token.now → get_or token.now 0 0 ≡ 46) }
+{
     let mut end = 0;
     if !token.starts_with(b".") {
-        if 1000000000 < token.len() {
+        if longest < token.len() {
             return None;
         }
         let mut text = token;

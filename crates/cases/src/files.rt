@@ -3,23 +3,24 @@ use crate::run::run_line;
 use std::rt::{Env, Files};
 use std::{env, fs, io};
 
-// Every line of a file of cases: each that failed is told, and then how many passed. Lines and cases are counted to 1,000,000,000.
-fn run_lines(rt: &impl Print, name: &str, file: &[u8]) -> io::Result<()> {
+// Every line of a file of cases: each that failed is told, and then how many passed. `most` is the longest token that is read
+// as bytes, but for one that begins with a dot, and how far lines and cases are counted.
+fn run_lines(rt: &impl Print, name: &str, file: &[u8], most: usize) -> io::Result<()> {
     // eight registers of 8,192 bytes; room for what a line hands in and expects, and for what its call writes: four
     // times the longest store
     let mut regs = [0; 65536];
     let mut room = [0; 262144];
     let mut out = [0; 262144];
-    let mut passed = 0u64;
+    let mut passed = 0usize;
     let mut failed = 0usize;
     for (k, line) in file.split(|&b| b == b'\n').enumerate() {
-        match run_line(line, &mut regs, &mut room, &mut out) {
+        match run_line(line, &mut regs, &mut room, &mut out, most) {
             None => {}
-            Some(true) if passed < 1000000000 => passed += 1,
+            Some(true) if passed < most => passed += 1,
             Some(true) => {}
             Some(false) => {
                 failed = failed.saturating_add(1);
-                println!(rt; "{name}: line {} failed", (k + 1).min(1000000000))?
+                println!(rt; "{name}: line {} failed", (k + 1).min(most))?
             }
         }
     }
@@ -31,17 +32,29 @@ fn run_lines(rt: &impl Print, name: &str, file: &[u8]) -> io::Result<()> {
 }
 
 // A file that cannot be read is told on standard error.
-fn run_file(rt: &(impl Files + Print + Eprint + AllocGlobal), name: &str) -> io::Result<()> {
+fn run_file(
+    rt: &(impl Files + Print + Eprint + AllocGlobal),
+    name: &str,
+    most: usize,
+) -> io::Result<()> {
     match fs::read(rt, name) {
-        Ok(file) => run_lines(rt, name, &file),
+        Ok(file) => run_lines(rt, name, &file, most),
         Err(error) => eprintln!(rt; "{name}: {error}"),
     }
 }
 
 // Every file that an argument names.
 pub fn run_arguments(rt: &(impl Env + Files + Print + Eprint + AllocGlobal)) -> io::Result<()> {
+    run_arguments_within(rt, usize::MAX)
+}
+
+// The same; `most` is the longest token that is read as bytes, but for one that begins with a dot, and how far lines and cases are counted.
+pub fn run_arguments_within(
+    rt: &(impl Env + Files + Print + Eprint + AllocGlobal),
+    most: usize,
+) -> io::Result<()> {
     for name in env::args(rt)?.skip(1) {
-        run_file(rt, name.as_str())?;
+        run_file(rt, name.as_str(), most)?;
     }
     Ok(())
 }

@@ -4,5 +4,7 @@
 
 mod files;
 mod run;
+#[cfg(test)]
+mod tests;
 
-pub use files::run_arguments;
+pub use files::{run_arguments, run_arguments_within};

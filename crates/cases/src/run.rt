@@ -1,11 +1,11 @@
 // Running a line of a file of cases.
 
 // $N BYTES: register N holds these bytes from now on.
-fn define(line: &[u8], regs: &mut [u8], room: &mut [u8]) -> Option<()> {
+fn define(line: &[u8], regs: &mut [u8], room: &mut [u8], longest: usize) -> Option<()> {
     let [_, d @ b'0'..=b'7', ..] = line else {
         return None;
     };
-    let bytes = caseline::string(caseline::token(line, 1), regs, room)?;
+    let bytes = caseline::string_within(caseline::token(line, 1), regs, room, longest)?;
     let slot = regs.chunks_exact_mut(8192).nth(usize::from(d - b'0'))?;
     let (length, rest) = slot.split_at_mut_checked(2)?;
     rest.get_mut(..bytes.len())?.copy_from_slice(bytes);
@@ -14,22 +14,28 @@ fn define(line: &[u8], regs: &mut [u8], room: &mut [u8]) -> Option<()> {
 }
 
 // Whether a call passes, by its name.
-fn is_passed(line: &[u8], regs: &[u8], room: &mut [u8], out: &mut [u8]) -> bool {
-    entrycases::run(line, regs, room, out)
-        .or_else(|| sheetcases::run(line, regs, room, out))
-        .or_else(|| settingcases::run(line, regs, room, out))
-        .or_else(|| wordcases::run(line, regs, room, out))
+fn is_passed(line: &[u8], regs: &[u8], room: &mut [u8], out: &mut [u8], longest: usize) -> bool {
+    entrycases::run_within(line, regs, room, out, longest)
+        .or_else(|| sheetcases::run_within(line, regs, room, out, longest))
+        .or_else(|| settingcases::run_within(line, regs, room, out, longest))
+        .or_else(|| wordcases::run_within(line, regs, room, out, longest))
         == Some(true)
 }
 
-// Whether a line passes; None of a comment, an empty line or a register.
-pub fn run_line(line: &[u8], regs: &mut [u8], room: &mut [u8], out: &mut [u8]) -> Option<bool> {
+// Whether a line passes, with the longest token that is read as bytes; None of a comment, an empty line or a register.
+pub fn run_line(
+    line: &[u8],
+    regs: &mut [u8],
+    room: &mut [u8],
+    out: &mut [u8],
+    longest: usize,
+) -> Option<bool> {
     match line.first() {
         None | Some(b'#') => None,
-        Some(b'$') => match define(line, regs, room) {
+        Some(b'$') => match define(line, regs, room, longest) {
             Some(()) => None,
             None => Some(false),
         },
-        _ => Some(is_passed(line, regs, room, out)),
+        _ => Some(is_passed(line, regs, room, out, longest)),
     }
 }

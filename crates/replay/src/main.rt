@@ -4,5 +4,5 @@
 use std::io;
 
 fn main(rt: HostRuntime) -> io::Result<()> {
-    cases::run_arguments(&rt)
+    cases::run_arguments_within(&rt, 1000000000)
 }
