@@ -17,6 +17,71 @@ pub struct Case<'a> {
     longest: usize,
 }
 
+// A line of cases with the registers, and the longest token of it that is read as bytes; one that begins with a dot may be longer.
+#[derive(Clone, Copy)]
+pub struct Line<'a> {
+    pub text: &'a [u8],
+    pub regs: &'a [u8],
+    pub longest: usize,
+}
+
+impl<'a> Line<'a> {
+    // A line whose tokens may have any length.
+    pub fn unlimited(text: &'a [u8], regs: &'a [u8]) -> Line<'a>
+        ensures { result.longest ≡ 18446744073709551615 }
+    {
+        Line {
+            text,
+            regs,
+            longest: usize::MAX,
+        }
+    }
+
+    // The line as a case that has n arguments and an arrow behind them, and the room that they leave.
+    pub fn read<'b>(self, n: usize, room: &'b mut [u8]) -> Option<(Case<'b>, &'b mut [u8])>
+    where
+        'a: 'b,
+        requires { n < 12 }
+        ensures { IfSome result (λ r. r.0.longest ≡ self.entry.longest) }
+    {
+        let mut tokens = self.text.splitn(n + 3, |&b| b == b' ');
+        tokens.next();
+        let mut arguments: Arguments<'b> = [b""; 11];
+        let mut room = room;
+        for argument in &mut arguments[..n] {
+            let length = read::string_within(tokens.next()?, self.regs, room, self.longest)?.len();
+            *argument = room.split_off_mut(..length)?;
+        }
+        let b"->" = tokens.next()? else {
+            return None;
+        };
+        let told = tokens.next().unwrap_or_default();
+        Some((
+            Case {
+                arguments,
+                told,
+                regs: self.regs,
+                longest: self.longest,
+            },
+            room,
+        ))
+    }
+
+    // Whether a call passes on the line, which has n arguments; None where it cannot be read.
+    pub fn passes<'b, Call: FnOnce(Case, &mut [u8]) -> bool>(
+        self,
+        n: usize,
+        room: &'b mut [u8],
+        call: Call,
+    ) -> Option<bool>
+        requires few { n < 12 }
+        requires is_always_callable { Call.IsAlwaysCallable call }
+    {
+        let (case, room) = self.read(n, room)?;
+        Some(call(case, room))
+    }
+}
+
 impl<'a> Case<'a> {
     // A line that has n arguments and an arrow behind them, and the room that they leave.
     pub fn read(
@@ -28,41 +93,7 @@ impl<'a> Case<'a> {
         requires { n < 12 }
         ensures { IfSome result (λ r. r.0.longest ≡ 18446744073709551615) }
     {
-        Case::read_within(line, n, regs, room, usize::MAX)
-    }
-
-    // The same, with the longest token that is read as bytes, of those behind the arrow too; one that begins with a dot may be longer.
-    pub fn read_within(
-        line: &'a [u8],
-        n: usize,
-        regs: &'a [u8],
-        room: &'a mut [u8],
-        longest: usize,
-    ) -> Option<(Case<'a>, &'a mut [u8])>
-        requires { n < 12 }
-        ensures { IfSome result (λ r. r.0.longest ≡ longest) }
-    {
-        let mut tokens = line.splitn(n + 3, |&b| b == b' ');
-        tokens.next();
-        let mut arguments: Arguments<'a> = [b""; 11];
-        let mut room = room;
-        for argument in &mut arguments[..n] {
-            let length = read::string_within(tokens.next()?, regs, room, longest)?.len();
-            *argument = room.split_off_mut(..length)?;
-        }
-        let b"->" = tokens.next()? else {
-            return None;
-        };
-        let told = tokens.next().unwrap_or_default();
-        Some((
-            Case {
-                arguments,
-                told,
-                regs,
-                longest,
-            },
-            room,
-        ))
+        Line::unlimited(line, regs).read(n, room)
     }
 
     // Token k behind the arrow as a number.
@@ -106,23 +137,7 @@ pub fn passes<'a, Call: FnOnce(Case, &mut [u8]) -> bool>(
     requires few { n < 12 }
     requires is_always_callable { Call.IsAlwaysCallable call }
 {
-    passes_within(line, n, regs, room, usize::MAX, call)
-}
-
-// The same, with the longest token that is read as bytes; one that begins with a dot may be longer.
-pub fn passes_within<'a, Call: FnOnce(Case, &mut [u8]) -> bool>(
-    line: &'a [u8],
-    n: usize,
-    regs: &'a [u8],
-    room: &'a mut [u8],
-    longest: usize,
-    call: Call,
-) -> Option<bool>
-    requires few { n < 12 }
-    requires is_always_callable { Call.IsAlwaysCallable call }
-{
-    let (case, room) = Case::read_within(line, n, regs, room, longest)?;
-    Some(call(case, room))
+    Line::unlimited(line, regs).passes(n, room, call)
 }
 
 // An argument that says yes or no: the byte 1, or 0.

@@ -5,5 +5,5 @@
 mod handed;
 mod read;
 
-pub use handed::{Arguments, Case, four_bytes, load, passes, passes_within, yes_or_no};
+pub use handed::{Arguments, Case, Line, four_bytes, load, passes, yes_or_no};
 pub use read::{number, string, string_within, token};

@@ -1,4 +1,5 @@
 // Running a line of a file of cases.
+use caseline::Line;
 
 // $N BYTES: register N holds these bytes from now on.
 fn define(line: &[u8], regs: &mut [u8], room: &mut [u8], longest: usize) -> Option<()> {
@@ -14,11 +15,11 @@ fn define(line: &[u8], regs: &mut [u8], room: &mut [u8], longest: usize) -> Opti
 }
 
 // Whether a call passes, by its name.
-fn is_passed(line: &[u8], regs: &[u8], room: &mut [u8], out: &mut [u8], longest: usize) -> bool {
-    entrycases::run_within(line, regs, room, out, longest)
-        .or_else(|| sheetcases::run_within(line, regs, room, out, longest))
-        .or_else(|| settingcases::run_within(line, regs, room, out, longest))
-        .or_else(|| wordcases::run_within(line, regs, room, out, longest))
+fn is_passed(line: Line, room: &mut [u8], out: &mut [u8]) -> bool {
+    entrycases::run_line(line, room, out)
+        .or_else(|| sheetcases::run_line(line, room, out))
+        .or_else(|| settingcases::run_line(line, room, out))
+        .or_else(|| wordcases::run_line(line, room, out))
         == Some(true)
 }
 
@@ -36,6 +37,13 @@ pub fn run_line(
             Some(()) => None,
             None => Some(false),
         },
-        _ => Some(is_passed(line, regs, room, out, longest)),
+        _ => {
+            let line = Line {
+                text: line,
+                regs,
+                longest,
+            };
+            Some(is_passed(line, room, out))
+        }
     }
 }

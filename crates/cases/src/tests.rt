@@ -1,5 +1,13 @@
 // Each function that reads a line of cases, and the same up to a longest token.
-use caseline::Case;
+use caseline::{Case, Line};
+
+fn within<'a>(text: &'a [u8], regs: &'a [u8], longest: usize) -> Line<'a> {
+    Line {
+        text,
+        regs,
+        longest,
+    }
+}
 
 #[test]
 fn reads_a_byte_string(rt: HostRuntime) {
@@ -34,7 +42,7 @@ fn reads_a_line(rt: HostRuntime) {
     assert!(rt; reads(line, &regs, &mut room) == Some(true));
     assert!(rt; caseline::passes(line, 2, &regs, &mut room, is_read) == Some(true));
     for (longest, wanted) in [(2, None), (3, Some(false)), (4, Some(true))] {
-        let passed = caseline::passes_within(line, 2, &regs, &mut room, longest, is_read);
+        let passed = within(line, &regs, longest).passes(2, &mut room, is_read);
         assert!(rt; passed == wanted, "at {longest}");
     }
 }
@@ -46,18 +54,18 @@ fn runs_a_line(rt: HostRuntime) {
     let mut out = [0; 64];
     let line = b"fold \"AB\" -> \"ab\"";
     assert!(rt; wordcases::run(line, &regs, &mut room, &mut out) == Some(true));
-    assert!(rt; wordcases::run_within(line, &regs, &mut room, &mut out, 4) == Some(true));
-    assert!(rt; wordcases::run_within(line, &regs, &mut room, &mut out, 3) == None);
+    assert!(rt; wordcases::run_line(within(line, &regs, 4), &mut room, &mut out) == Some(true));
+    assert!(rt; wordcases::run_line(within(line, &regs, 3), &mut room, &mut out) == None);
     let line = b"fold 41 -> \"a\"";
-    assert!(rt; wordcases::run_within(line, &regs, &mut room, &mut out, 3) == Some(true));
-    assert!(rt; wordcases::run_within(line, &regs, &mut room, &mut out, 2) == Some(false));
+    assert!(rt; wordcases::run_line(within(line, &regs, 3), &mut room, &mut out) == Some(true));
+    assert!(rt; wordcases::run_line(within(line, &regs, 2), &mut room, &mut out) == Some(false));
     let line = b"new_store 07 -> 2 0 0 =";
     assert!(rt; entrycases::run(line, &regs, &mut room, &mut out) == Some(true));
-    assert!(rt; entrycases::run_within(line, &regs, &mut room, &mut out, 1) == None);
+    assert!(rt; entrycases::run_line(within(line, &regs, 1), &mut room, &mut out) == None);
     let line = b"new_sheet . 01000000 -> 2 0 0 =";
     assert!(rt; sheetcases::run(line, &regs, &mut room, &mut out) == Some(true));
-    assert!(rt; sheetcases::run_within(line, &regs, &mut room, &mut out, 7) == None);
+    assert!(rt; sheetcases::run_line(within(line, &regs, 7), &mut room, &mut out) == None);
     let line = b"read_settings . {4}00 0000803f -> 2 0 {4}00 {4}00 {4}00 {4}00";
     assert!(rt; settingcases::run(line, &regs, &mut room, &mut out) == Some(true));
-    assert!(rt; settingcases::run_within(line, &regs, &mut room, &mut out, 7) == None);
+    assert!(rt; settingcases::run_line(within(line, &regs, 7), &mut room, &mut out) == None);
 }

@@ -2,7 +2,7 @@
 
 #![tactic(auto)]
 
-use caseline::{Case, passes_within};
+use caseline::{Case, Line};
 
 // predict PHONES INDEX MODEL WORD OUT -> REFUSAL KIND VALUE OUT
 fn predict(case: Case, room: &mut [u8], out: &mut [u8]) -> bool {
@@ -52,52 +52,18 @@ fn fold(case: Case, room: &mut [u8], out: &mut [u8]) -> bool {
 
 // A line by the name of its call: whether it passed; None where the call is none of these or the line cannot be read.
 pub fn run(line: &[u8], regs: &[u8], room: &mut [u8], out: &mut [u8]) -> Option<bool> {
-    run_within(line, regs, room, out, usize::MAX)
+    run_line(Line::unlimited(line, regs), room, out)
 }
 
-// The same, with the longest token that is read as bytes; one that begins with a dot may be longer.
-pub fn run_within(
-    line: &[u8],
-    regs: &[u8],
-    room: &mut [u8],
-    out: &mut [u8],
-    longest: usize,
-) -> Option<bool> {
-    match caseline::token(line, 0) {
-        b"predict" => passes_within(
-            line,
-            5,
-            regs,
-            room,
-            longest,
-            |case, room| predict(case, room, out),
-        ),
-        b"syllabify" => passes_within(
-            line,
-            2,
-            regs,
-            room,
-            longest,
-            |case, room| syllabify(case, room, out),
-        ),
-        b"is_sayable" => passes_within(line, 3, regs, room, longest, |case, _| is_sayable(case)),
-        b"is_vowel" => passes_within(line, 1, regs, room, longest, |case, _| is_vowel(case)),
-        b"split_stress" => passes_within(
-            line,
-            1,
-            regs,
-            room,
-            longest,
-            |case, _| split_stress(case),
-        ),
-        b"fold" => passes_within(
-            line,
-            1,
-            regs,
-            room,
-            longest,
-            |case, room| fold(case, room, out),
-        ),
+// The same of a line with its longest token.
+pub fn run_line(line: Line, room: &mut [u8], out: &mut [u8]) -> Option<bool> {
+    match caseline::token(line.text, 0) {
+        b"predict" => line.passes(5, room, |case, room| predict(case, room, out)),
+        b"syllabify" => line.passes(2, room, |case, room| syllabify(case, room, out)),
+        b"is_sayable" => line.passes(3, room, |case, _| is_sayable(case)),
+        b"is_vowel" => line.passes(1, room, |case, _| is_vowel(case)),
+        b"split_stress" => line.passes(1, room, |case, _| split_stress(case)),
+        b"fold" => line.passes(1, room, |case, room| fold(case, room, out)),
         _ => None,
     }
 }
